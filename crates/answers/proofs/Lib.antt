@@ -1,0 +1,2 @@
+-- The laws of answers that other crates cite.
+pub mod Told

@@ -1,0 +1,2 @@
+-- What a refusal tells.
+pub mod Told

@@ -1,0 +1,23 @@
+-- Document 01, "Numbers given back": each refusal carries a number, a text and a place. This is the paper's table, case by case.
+use Prim.Native.Nat.{ℕ}
+use Rattle.answers.specs.declared.Refusal.{Refusal}
+use Rattle.answers.specs.declared.Refusal.the-variants.{Length, Block, Total, Work, Output, Counts, Rule, Line, Size}
+
+pub record Told : Type 0 where
+  pub number : ℕ
+  pub text : ℕ
+  pub place : ℕ
+
+abbrev pub tell : ℕ → ℕ → ℕ → Told
+tell n t p = record { number = n; text = t; place = p }
+
+abbrev pub told : Refusal → Told
+told (Length shape) = tell 1 shape 0
+told (Block shape block) = tell 2 shape block
+told (Total shape) = tell 3 shape 0
+told Work = tell 4 0 0
+told (Output output) = tell 5 output 0
+told Counts = tell 6 0 0
+told (Rule rule) = tell 7 0 rule
+told (Line line) = tell 8 0 line
+told Size = tell 9 0 0

@@ -1,0 +1,90 @@
+// The answers of the calls, and what a refusal tells: number, text and place.
+ghost use mathlib.Core.Path.{_≡_};
+ghost use Rattle.answers.specs.Told.{told};
+
+// Why a call was refused, with the shape's, block's, output's, rule's or line's number, each from 1.
+pub enum Refusal {
+    Length(u64),
+    Block(u64, u64),
+    Total(u64),
+    Work,
+    Output(u64),
+    Counts,
+    Rule(u64),
+    Line(u64),
+    Size,
+}
+
+// Whether a shape is one.
+pub enum Checked {
+    Sound,
+    Refused(Refusal),
+}
+
+// Whether a text fits a shape.
+pub enum Fit {
+    Fits,
+    Unfit,
+    Refused(Refusal),
+}
+
+// A text written to an output: its length.
+pub enum Written {
+    Text(usize),
+    Refused(Refusal),
+}
+
+// What the quick sweep finds: places, written to the output, or that there cannot be a common text; each with the looks made.
+pub enum Swept {
+    Places(u64),
+    Cannot(u64),
+    Refused(Refusal),
+}
+
+pub fn number(r: Refusal) -> u64
+    ensures { λ n. ⌜ n ≡ told r .number ⌝ }
+{
+    match r {
+        Refusal::Length(_) => 1,
+        Refusal::Block(_, _) => 2,
+        Refusal::Total(_) => 3,
+        Refusal::Work => 4,
+        Refusal::Output(_) => 5,
+        Refusal::Counts => 6,
+        Refusal::Rule(_) => 7,
+        Refusal::Line(_) => 8,
+        Refusal::Size => 9,
+    }
+}
+
+pub fn text(r: Refusal) -> u64
+    ensures { λ t. ⌜ t ≡ told r .text ⌝ }
+{
+    match r {
+        Refusal::Length(shape) => shape,
+        Refusal::Block(shape, _) => shape,
+        Refusal::Total(shape) => shape,
+        Refusal::Work => 0,
+        Refusal::Output(output) => output,
+        Refusal::Counts => 0,
+        Refusal::Rule(_) => 0,
+        Refusal::Line(_) => 0,
+        Refusal::Size => 0,
+    }
+}
+
+pub fn place(r: Refusal) -> u64
+    ensures { λ p. ⌜ p ≡ told r .place ⌝ }
+{
+    match r {
+        Refusal::Length(_) => 0,
+        Refusal::Block(_, block) => block,
+        Refusal::Total(_) => 0,
+        Refusal::Work => 0,
+        Refusal::Output(_) => 0,
+        Refusal::Counts => 0,
+        Refusal::Rule(rule) => rule,
+        Refusal::Line(line) => line,
+        Refusal::Size => 0,
+    }
+}

@@ -1,0 +1,132 @@
+-- Bases as sets: equal by their characters; what two share and what either holds, by `&` and `|` of their words. Assumes nothing.
+use mathlib.Core.Path.{_≡_, refl, sym, ap, ap₂, _∙_, subst}
+use mathlib.Core.Bool.{true, false, true≢false}
+use mathlib.Core.List.{List, [], _∷_}
+use mathlib.Core.Logic.{_⊎_, inl, inr, ⊎-elim}
+use Prim.Native.Nat.{ℕ, zero, suc, _+_, _*_, _/_, _%_, _^_, _≤_, _<_}
+use native.Mathlib.Nat.{mod-lt, div-one, zero-div}
+use native.Mathlib.Omega.{arith}
+use lib.Arith.{bin-ind}
+use lib.Bits.{bitAnd, bitOr, and-shr, and-mod, or-shr, or-mod, and-block, or-block, and-zero-l, or-zero-l}
+use lib.Dec.{lit<}
+use Rattle.bases.specs.Base.{baseOf, Holds, Empty, Meets}
+use Rattle.bases.specs.Tells.{Tells}
+use Rattle.bases.proofs.Laws.{halved, empty-zero, none-in-zero, empty-words, words-empty}
+
+-- ---- two bases that hold the same characters are the same number
+
+bit-cases : (n : ℕ) → (n % 2 ≡ 0) ⊎ (n % 2 ≡ 1)
+bit-cases n = go (n % 2) (mod-lt n {m = 2} (lit< tt))
+  where
+    go : (x : ℕ) → x < 2 → (x ≡ 0) ⊎ (x ≡ 1)
+    go zero h = inl refl
+    go (suc zero) h = inr refl
+    go (suc (suc x)) h = absurd (omega arith)
+
+pub same-base : (a b : ℕ) → ((c : ℕ) → Holds a c → Holds b c) → ((c : ℕ) → Holds b c → Holds a c) → a ≡ b
+unfolding Holds
+same-base = bin-ind (λ (a : ℕ). (b : ℕ) → ((c : ℕ) → Holds a c → Holds b c) → ((c : ℕ) → Holds b c → Holds a c) → a ≡ b) at-zero step
+  where
+    at-zero : (b : ℕ) → ((c : ℕ) → Holds 0 c → Holds b c) → ((c : ℕ) → Holds b c → Holds 0 c) → 0 ≡ b
+    at-zero b f g = sym (empty-zero b (unfold Empty Holds in (λ c h. none-in-zero c (g c h))))
+
+    low : (n : ℕ) → n / 2 ^ 0 % 2 ≡ n % 2
+    low n = ap (λ (x : ℕ). x % 2) (div-one n)
+
+    step : (a : ℕ) → ((b : ℕ) → ((c : ℕ) → Holds (a / 2) c → Holds b c) → ((c : ℕ) → Holds b c → Holds (a / 2) c) → a / 2 ≡ b)
+        → (b : ℕ) → ((c : ℕ) → Holds a c → Holds b c) → ((c : ℕ) → Holds b c → Holds a c) → a ≡ b
+    step a ih b f g =
+        let halves : a / 2 ≡ b / 2 = ih (b / 2) (λ c h. sym (halved b c) ∙ f (suc c) (halved a c ∙ h)) (λ c h. sym (halved a c) ∙ g (suc c) (halved b c ∙ h)) in
+        let to : a % 2 ≡ 1 → b % 2 ≡ 1 = λ h. sym (low b) ∙ f 0 (low a ∙ h) in
+        let from : b % 2 ≡ 1 → a % 2 ≡ 1 = λ h. sym (low a) ∙ g 0 (low b ∙ h) in
+        let bits : a % 2 ≡ b % 2 = ⊎-elim
+        (λ za. ⊎-elim (λ zb. za ∙ sym zb) (λ ob. from ob ∙ sym ob) (bit-cases b))
+        (λ oa. oa ∙ sym (to oa)) (bit-cases a) in
+        omega arith
+
+-- ---- what two bases share, and what either holds
+
+bits-of : (op : ℕ → ℕ → ℕ) → ((a b k : ℕ) → op a b / 2 ^ k ≡ op (a / 2 ^ k) (b / 2 ^ k)) → ((a b k : ℕ) → op a b % 2 ^ k ≡ op (a % 2 ^ k) (b % 2 ^ k))
+    → (a b c : ℕ) → op a b / 2 ^ c % 2 ≡ op (a / 2 ^ c % 2) (b / 2 ^ c % 2)
+bits-of op shr rem a b c = ap (λ (x : ℕ). x % 2) (shr a b c) ∙ rem (a / 2 ^ c) (b / 2 ^ c) 1
+
+pub both : (a b c : ℕ) → Holds a c → Holds b c → Holds (bitAnd a b) c
+unfolding Holds
+both a b c p q = bits-of bitAnd and-shr and-mod a b c ∙ ap₂ bitAnd p q
+
+bit-and : (x y : ℕ) → (x ≡ 0) ⊎ (x ≡ 1) → (y ≡ 0) ⊎ (y ≡ 1) → bitAnd x y ≡ 1 → (x ≡ 1) × (y ≡ 1)
+bit-and x y (inl p) q h = absurd (let z : _≡_ {A = ℕ} 0 1 = sym (and-zero-l y) ∙ sym (ap (λ (v : ℕ). bitAnd v y) p) ∙ h in omega arith)
+bit-and x y (inr p) (inl q) h = absurd (let z : _≡_ {A = ℕ} 0 1 = sym (ap₂ bitAnd p q) ∙ h in omega arith)
+bit-and x y (inr p) (inr q) h = (p, q)
+
+pub shared : (a b c : ℕ) → Holds (bitAnd a b) c → Holds a c × Holds b c
+unfolding Holds
+shared a b c h = bit-and _ _ (bit-cases (a / 2 ^ c)) (bit-cases (b / 2 ^ c)) (sym (bits-of bitAnd and-shr and-mod a b c) ∙ h)
+
+bit-or : (x y : ℕ) → (x ≡ 0) ⊎ (x ≡ 1) → (y ≡ 0) ⊎ (y ≡ 1) → bitOr x y ≡ 1 → (x ≡ 1) ⊎ (y ≡ 1)
+bit-or x y (inl p) q h = inr (sym (ap (λ (v : ℕ). bitOr v y) p ∙ or-zero-l y) ∙ h)
+bit-or x y (inr p) q h = inl p
+
+pub either : (a b c : ℕ) → Holds (bitOr a b) c → Holds a c ⊎ Holds b c
+unfolding Holds
+either a b c h = bit-or _ _ (bit-cases (a / 2 ^ c)) (bit-cases (b / 2 ^ c)) (sym (bits-of bitOr or-shr or-mod a b c) ∙ h)
+
+or-first : (y : ℕ) → (y ≡ 0) ⊎ (y ≡ 1) → bitOr 1 y ≡ 1
+or-first y (inl q) = ap (bitOr 1) q
+or-first y (inr q) = ap (bitOr 1) q
+
+or-second : (x : ℕ) → (x ≡ 0) ⊎ (x ≡ 1) → bitOr x 1 ≡ 1
+or-second x (inl q) = ap (λ (v : ℕ). bitOr v 1) q
+or-second x (inr q) = ap (λ (v : ℕ). bitOr v 1) q
+
+pub in-first : (a b c : ℕ) → Holds a c → Holds (bitOr a b) c
+unfolding Holds
+in-first a b c h = bits-of bitOr or-shr or-mod a b c ∙ ap (λ (x : ℕ). bitOr x (b / 2 ^ c % 2)) h ∙ or-first _ (bit-cases (b / 2 ^ c))
+
+pub in-second : (a b c : ℕ) → Holds b c → Holds (bitOr a b) c
+unfolding Holds
+in-second a b c h = bits-of bitOr or-shr or-mod a b c ∙ ap (λ (x : ℕ). bitOr (a / 2 ^ c % 2) x) h ∙ or-second _ (bit-cases (a / 2 ^ c))
+
+-- ---- the same, word by word
+
+pub and-words : (w v x y : ℕ) → w < 2 ^ 64 → x < 2 ^ 64 → baseOf (bitAnd w x ∷ (bitAnd v y ∷ [])) ≡ bitAnd (baseOf (w ∷ (v ∷ []))) (baseOf (x ∷ (y ∷ [])))
+unfolding baseOf
+and-words w v x y hw hx =
+    sym (and-block 64 (0 * 2 ^ 64 + v) (0 * 2 ^ 64 + y) w x hw hx ∙ ap (λ (z : ℕ). z * 2 ^ 64 + bitAnd w x) (ap₂ bitAnd (plain v) (plain y) ∙ sym (plain (bitAnd v y))))
+  where
+    plain : (n : ℕ) → 0 * 2 ^ 64 + n ≡ n
+    plain n = omega arith
+
+pub or-words : (w v x y : ℕ) → w < 2 ^ 64 → x < 2 ^ 64 → baseOf (bitOr w x ∷ (bitOr v y ∷ [])) ≡ bitOr (baseOf (w ∷ (v ∷ []))) (baseOf (x ∷ (y ∷ [])))
+unfolding baseOf
+or-words w v x y hw hx =
+    sym (or-block 64 (0 * 2 ^ 64 + v) (0 * 2 ^ 64 + y) w x hw hx ∙ ap (λ (z : ℕ). z * 2 ^ 64 + bitOr w x) (ap₂ bitOr (plain v) (plain y) ∙ sym (plain (bitOr v y))))
+  where
+    plain : (n : ℕ) → 0 * 2 ^ 64 + n ≡ n
+    plain n = omega arith
+
+-- ---- whether two bases meet
+
+-- a base that is not the number 0 holds something
+some-held : (b : ℕ) → (b ≡ 0 → ⊥) → (c : ℕ) × Holds b c
+unfolding Holds
+some-held = bin-ind (λ (b : ℕ). (b ≡ 0 → ⊥) → (c : ℕ) × Holds b c) (λ n. absurd (n refl)) step
+  where
+    step : (n : ℕ) → ((n / 2 ≡ 0 → ⊥) → (c : ℕ) × Holds (n / 2) c) → (n ≡ 0 → ⊥) → (c : ℕ) × Holds n c
+    step n ih nz = ⊎-elim
+        (λ z. let r = ih (λ h. nz (omega arith)) in (suc (r .0), halved n (r .0) ∙ r .1))
+        (λ o. (0, ap (λ (x : ℕ). x % 2) (div-one n) ∙ o)) (bit-cases n)
+
+pub meets-of : (a b : ℕ) → (bitAnd a b ≡ 0 → ⊥) → Meets a b
+meets-of a b nz = let h = some-held (bitAnd a b) nz in let p = shared a b (h .0) (h .1) in record { shared = h .0; first = p .0; second = p .1 }
+
+pub meets-not : (a b : ℕ) → bitAnd a b ≡ 0 → Meets a b → ⊥
+unfolding Empty
+meets-not a b z m = none-in-zero (m .shared) (rw z at (both a b (m .shared) (m .first) (m .second)))
+
+module _ (w v x y : ℕ) (hw : w < 2 ^ 64) (hx : x < 2 ^ 64) where
+  pub words-meet : ((bitAnd w x ≡ 0) × (bitAnd v y ≡ 0) → ⊥) → Meets (baseOf (w ∷ (v ∷ []))) (baseOf (x ∷ (y ∷ [])))
+  words-meet n = meets-of _ _ (λ z. n (empty-words _ _ (subst Empty (sym (and-words w v x y hw hx ∙ z)) none-in-zero)))
+
+  pub words-do-not : bitAnd w x ≡ 0 → bitAnd v y ≡ 0 → Meets (baseOf (w ∷ (v ∷ []))) (baseOf (x ∷ (y ∷ []))) → ⊥
+  words-do-not p q = meets-not _ _ (sym (and-words w v x y hw hx) ∙ empty-zero _ (words-empty _ _ p q))

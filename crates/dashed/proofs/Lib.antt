@@ -1,0 +1,2 @@
+-- That the promises determine what they promise.
+pub mod Determined

@@ -1,0 +1,2 @@
+-- The promises of the calls, in one place.
+pub mod Promises

@@ -1,0 +1,32 @@
+-- What each call of document 01 promises. Each promise is a relation between what is lent, what is answered and what is lent back.
+use mathlib.Core.Path.{_≡_}
+use mathlib.Core.List.{List}
+use Prim.Native.Nat.{ℕ}
+use Rattle.answers.specs.declared.Checked.{Checked}
+use Rattle.answers.specs.declared.Fit.{Fit}
+use Rattle.answers.specs.declared.Written.{Written}
+use Rattle.extremes.specs.declared.Direction.the-variants.{Least, Greatest}
+use Rattle.extremes.specs.Extreme.{ExtremePromise}
+use Rattle.fitting.specs.Fit.{FitPromise}
+use Rattle.shapes.specs.Lent.{ShapeChecked}
+use Rattle.texts.specs.Order.{AtMost, Before}
+
+-- check a shape: sound, or the one refusal that is due
+abbrev pub CheckShape : List ℕ → Checked → Type 0
+CheckShape xs r = ShapeChecked 1 xs r
+
+-- whether a text fits a shape: yes exactly if some filling has that text
+abbrev pub FitsShape : List ℕ → List ℕ → Fit → Type 0
+FitsShape xs t r = FitPromise xs t r
+
+-- the earlier of two texts a and b, lent as x and y: the first if it is at most the second, the second if it is before the first
+pub record Earlier {Lent : Type 0} (a b : List ℕ) (x y r : Lent) : Type 0 where
+  pub first : AtMost a b → r ≡ x
+  pub second : Before b a → r ≡ y
+
+-- least and greatest text: the output's bytes before and after the call
+abbrev pub LeastText : List ℕ → List ℕ → List ℕ → Written → Type 0
+LeastText xs out out′ r = ExtremePromise Least xs out out′ r
+
+abbrev pub GreatestText : List ℕ → List ℕ → List ℕ → Written → Type 0
+GreatestText xs out out′ r = ExtremePromise Greatest xs out out′ r

@@ -1,0 +1,41 @@
+// The calls of document 01. None has a duty for its caller: whatever is lent, the call ends, answers or refuses by number, text and place,
+// and a refusal leaves all lent memory as on entry.
+use answers::Checked;
+use answers::Fit;
+use answers::Written;
+ghost use Rattle.dashed.specs.Promises.{CheckShape, FitsShape, Earlier, LeastText, GreatestText};
+
+// Checks a shape, lent as 64-bit numbers, four to a block.
+pub fn check_shape(shape: &[u64]) -> Checked
+    ensures { λ r. ⌜ CheckShape (now (shape .entry)) r ⌝ }
+{
+    shapes::check_lent(shape, 1)
+}
+
+// Whether a text, any bytes of any length, fits a shape.
+pub fn fits(shape: &[u64], text: &[u8]) -> Fit
+    ensures { λ r. ⌜ FitsShape (now (shape .entry)) (now (text .entry)) r ⌝ }
+{
+    fitting::fits(shape, text)
+}
+
+// The earlier of two texts itself, of the two lent; if they are equal, the first.
+pub fn earlier<'a>(first: &'a [u8], second: &'a [u8]) -> &'a [u8]
+    ensures { λ r. ⌜ Earlier (now (first .entry)) (now (second .entry)) (first .entry) (second .entry) r ⌝ }
+{
+    texts::earlier(first, second)
+}
+
+// The least text that fits the shape, into an output of at least 250 bytes; its length.
+pub fn least_text(shape: &[u64], out: &mut [u8]) -> Written
+    ensures { λ r. ⌜ LeastText (now (shape .entry)) (now (out .entry)) (now (out .exit)) r ⌝ }
+{
+    extremes::least_text(shape, out)
+}
+
+// The greatest text that fits the shape, into an output of at least 250 bytes; its length.
+pub fn greatest_text(shape: &[u64], out: &mut [u8]) -> Written
+    ensures { λ r. ⌜ GreatestText (now (shape .entry)) (now (out .entry)) (now (out .exit)) r ⌝ }
+{
+    extremes::greatest_text(shape, out)
+}

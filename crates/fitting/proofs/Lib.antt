@@ -1,0 +1,2 @@
+-- The laws of rows of marks.
+pub mod Rows

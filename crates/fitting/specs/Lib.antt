@@ -1,0 +1,3 @@
+-- What the call that decides fitting promises, and what its inner functions answer.
+pub mod Fit
+pub mod Rows

@@ -1,0 +1,74 @@
+-- `Within` is an order, kept by fillings and totals, and read block by block. Assumes nothing.
+use mathlib.Core.Path.{_≡_, refl, ap}
+use mathlib.Core.List.{List, [], _∷_}
+use Prim.Native.Nat.{ℕ, zero, suc, _≤_, _<_}
+use native.Mathlib.Omega.{arith}
+use lib.ListN.{length, getD}
+use Rattle.bases.proofs.Sets.{same-base}
+use Rattle.shapes.specs.All.{All, more}
+use Rattle.shapes.specs.Shape.{Block, Run, Filling, done, fill, total}
+use Rattle.hulls.specs.Hull.{blank}
+use Rattle.hulls.specs.Book.{Inside, Within, end, next}
+
+-- ---- one block
+
+pub inside-refl : (b : Block) → Inside b b
+inside-refl b = record { base = λ c h. h; lower = omega arith; upper = omega arith }
+
+pub inside-trans : {a b c : Block} → Inside a b → Inside b c → Inside a c
+inside-trans p q = record { base = λ c h. q .base c (p .base c h); lower = omega arith; upper = omega arith }
+
+pub inside-antisym : {a b : Block} → Inside a b → Inside b a → a ≡ b
+inside-antisym {a} {b} p q =
+    let bases : a .base ≡ b .base = same-base _ _ (p .base) (q .base) in
+    let lowers : a .lower ≡ b .lower = omega arith in
+    let uppers : a .upper ≡ b .upper = omega arith in
+    λ i. record { base = bases i; lower = lowers i; upper = uppers i }
+
+all-map : {P Q : ℕ → Type 0} {l : List ℕ} → ((c : ℕ) → P c → Q c) → All P l → All Q l
+all-map f All.none = All.none
+all-map f (more p l) = more (f _ p) (all-map f l)
+
+pub inside-run : {h b : Block} {r : List ℕ} → Inside h b → Run h r → Run b r
+inside-run p q = record { held = all-map (p .base) (q .held); enough = omega arith; bounded = omega arith }
+
+-- ---- lists of blocks
+
+pub within-refl : (S : List Block) → Within S S
+within-refl [] = end
+within-refl (b ∷ S) = next (inside-refl b) (within-refl S)
+
+pub within-trans : {A B C : List Block} → Within A B → Within B C → Within A C
+within-trans end end = end
+within-trans (next p v) (next q w) = next (inside-trans p q) (within-trans v w)
+
+pub within-antisym : {A B : List Block} → Within A B → Within B A → A ≡ B
+within-antisym end end = refl
+within-antisym (next p v) (next q w) = let e = inside-antisym p q in let f = within-antisym v w in λ i. e i ∷ f i
+
+pub within-size : {H S : List Block} → Within H S → length H ≡ length S
+within-size end = refl
+within-size (next p w) = ap suc (within-size w)
+
+pub within-total : {H S : List Block} → Within H S → total H ≤ total S
+unfolding total
+within-total end = omega arith
+within-total (next p w) = let t = within-total w in omega arith
+
+-- what fills the narrower fills the wider
+pub within-filling : {H S : List Block} {f : List (List ℕ)} → Within H S → Filling H f → Filling S f
+within-filling end done = done
+within-filling (next p w) (fill r f) = fill (inside-run p r) (within-filling w f)
+
+-- ---- by block number
+
+pub within-at : {H S : List Block} → Within H S → (i : ℕ) → i < length S → Inside (getD H i blank) (getD S i blank)
+within-at end i h = absurd (omega arith)
+within-at (next p w) zero h = p
+within-at (next p w) (suc i) h = within-at w i (omega arith)
+
+pub within-of : (H S : List Block) → length H ≡ length S → ((i : ℕ) → i < length S → Inside (getD H i blank) (getD S i blank)) → Within H S
+within-of [] [] e f = end
+within-of [] (b ∷ S) e f = absurd (omega arith)
+within-of (h ∷ H) [] e f = absurd (omega arith)
+within-of (h ∷ H) (b ∷ S) e f = next (f 0 (omega arith)) (within-of H S (omega arith) (λ i l. f (suc i) (omega arith)))

@@ -1,0 +1,69 @@
+-- The refusals of a shape: what the check of its blocks says of the whole, and that one input has one answer. Assumes nothing.
+use mathlib.Core.Path.{_≡_, refl, sym, ap, _∙_, subst}
+use mathlib.Core.List.{List, [], _∷_}
+use mathlib.Core.Logic.{_⊎_, inl, inr, ⊎-elim}
+use Prim.Native.Nat.{ℕ, suc, _+_, _≤_, _<_}
+use native.Mathlib.Numerals.{add-one}
+use native.Mathlib.Omega.{arith}
+use lib.ListN.{length, getD, take, length-take}
+use lib.Seq.{getD-take}
+use Rattle.answers.specs.Told.{Told, tell, told}
+use Rattle.answers.specs.declared.Checked.{Checked}
+use Rattle.answers.specs.declared.Checked.the-variants.{Sound as is-sound, Refused}
+use Rattle.bases.proofs.Plain.{lt-or-le}
+use Rattle.shapes.specs.All.{All}
+use Rattle.shapes.specs.Shape.{Block, Sound, total}
+use Rattle.shapes.specs.Lent.{shapeOf, RightLength, FirstUnsound, BlocksRefused, ShapeRefused, Accepted, BlocksChecked, ShapeChecked}
+use Rattle.shapes.specs.Lent.BlocksRefused.{unsound, too-long}
+use Rattle.shapes.specs.Lent.ShapeRefused.{wrong-length, wrong-blocks}
+use Rattle.shapes.proofs.All.{all-at}
+
+-- numbers of the right length are checked as their blocks are
+pub blocks-then : (n : ℕ) (xs : List ℕ) (r : Checked) → RightLength xs → BlocksChecked n (shapeOf xs) r → ShapeChecked n xs r
+blocks-then n xs is-sound h p = record { right = h; sound = p .0; short = p .1 }
+blocks-then n xs (Refused r) h p = wrong-blocks h p
+
+-- ---- one answer
+
+some-block : Block
+some-block = record { base = 0; lower = 0; upper = 0 }
+
+-- a block before the first unsound one is sound
+before-first : (s : List Block) {i : ℕ} → FirstUnsound s i → (k : ℕ) → k + 1 < i → (b : Block) → Sound (getD s k b)
+before-first s u k h b =
+    let e = u .place in
+    let w = u .within in
+    let l = length-take (u .before) s in
+    subst Sound (getD-take (u .before) s k b (omega arith)) (all-at b (u .sound) k (omega arith))
+
+pub one-first : (s : List Block) {i j : ℕ} → FirstUnsound s i → FirstUnsound s j → i ≡ j
+one-first s {i} {j} u v = ⊎-elim
+    (λ h. absurd (u .unsound some-block (before-first s v (u .before) (let e = u .place in omega arith) some-block)))
+    (λ h. ⊎-elim
+    (λ g. absurd (v .unsound some-block (before-first s u (v .before) (let e = v .place in omega arith) some-block)))
+    (λ g. omega arith) (lt-or-le j i))
+    (lt-or-le i j)
+
+-- blocks that are all sound have no first unsound one
+pub none-unsound : (s : List Block) {i : ℕ} → All Sound s → FirstUnsound s i → ⊥
+none-unsound s g u = u .unsound some-block (all-at some-block g (u .before) (u .within))
+
+pub blocks-one : {n : ℕ} {s : List Block} {t u : Told} → BlocksRefused n s t → BlocksRefused n s u → t ≡ u
+blocks-one (unsound i a p) (unsound j b q) = p ∙ ap (tell 2 _) (one-first _ a b) ∙ sym q
+blocks-one (unsound i a p) (too-long g h q) = absurd (none-unsound _ g a)
+blocks-one (too-long g h p) (unsound j b q) = absurd (none-unsound _ g b)
+blocks-one (too-long g h p) (too-long g′ h′ q) = p ∙ sym q
+
+pub blocks-not : {n : ℕ} {s : List Block} {t : Told} → BlocksRefused n s t → All Sound s → total s ≤ 250 → ⊥
+blocks-not (unsound i a p) g l = none-unsound _ g a
+blocks-not (too-long g h p) _ l = omega arith
+
+pub shape-one : {n : ℕ} {xs : List ℕ} {t u : Told} → ShapeRefused n xs t → ShapeRefused n xs u → t ≡ u
+shape-one (wrong-length a p) (wrong-length b q) = p ∙ sym q
+shape-one (wrong-length a p) (wrong-blocks h b) = absurd (a h)
+shape-one (wrong-blocks h b) (wrong-length a p) = absurd (a h)
+shape-one (wrong-blocks h a) (wrong-blocks g b) = blocks-one a b
+
+pub shape-not : {n : ℕ} {xs : List ℕ} {t : Told} → ShapeRefused n xs t → Accepted xs → ⊥
+shape-not (wrong-length a p) h = a (h .right)
+shape-not (wrong-blocks r b) h = blocks-not b (h .sound) (h .short)

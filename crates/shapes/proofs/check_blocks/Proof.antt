@@ -1,0 +1,49 @@
+-- `shapes::check_blocks`: the first block that is not sound, then the total. Assumes nothing.
+use mathlib.Core.Path.{_≡_, refl}
+use native.Mathlib.Omega.{arith}
+use Prim.Native.Nat.{_/_, _<_}
+use borrow.Author.Needs.{needs}
+use lib.ListN.{length}
+use Rattle.shapes.specs.All.{All}
+use Rattle.shapes.specs.Shape.{Sound}
+use Rattle.shapes.specs.Lent.{shapeOf}
+use Rattle.shapes.specs.Lent.BlocksRefused.{unsound, too-long}
+use Rattle.shapes.proofs.Lent.{all-sound, shape-length}
+use Rattle.shapes.proofs.check_blocks.Statement.{statement}
+use Rattle.shapes.proofs.check_blocks.Tie as tie
+
+sound-blocks-requires : tie.Need-sound-blocks-requires
+sound-blocks-requires c κs = search needs
+
+add-t8 : tie.Need-add-t8
+add-t8 c = search needs
+
+returns : tie.Need-returns
+returns c =
+    let good = c .before .sound-blocks in
+    let e = shape-length (c .before .before .before .args .shape .now) in
+    unsound _
+    (record {
+      before = good .result;
+      place = refl;
+      within = let h = c .if1 .taken in omega arith;
+      sound = good .ensures .sound;
+      unsound = good .ensures .unsound (c .if1 .taken);
+    })
+    refl
+
+-- where no block is refused, all are sound
+sound : (c : tie.Else1) → All Sound (shapeOf (c .before .before .before .args .shape .now))
+sound c = all-sound _ (c .before .sound-blocks .result) (c .if1 .left) (c .before .sound-blocks .ensures .sound)
+
+total-upper-requires : tie.Need-total-upper-requires
+total-upper-requires c κs = (sound c, c .before .before .before .pre)
+
+returns-2 : tie.Need-returns-2
+returns-2 c = too-long (sound (c .before .before)) (let e = c .before .total-upper .ensures in let h = c .if2 .taken in omega arith) refl
+
+returns-3 : tie.Need-returns-3
+returns-3 c = (sound (c .before .before), let e = c .before .total-upper .ensures in let h = c .if2 .left in omega arith)
+
+pub check-blocks-spec : {M : Type 1} → statement M
+check-blocks-spec = tie.close (tie.spec sound-blocks-requires add-t8 returns total-upper-requires returns-2 returns-3)

@@ -1,0 +1,114 @@
+// Which lent numbers are a shape: the check that every call begins with.
+use answers::Checked;
+use answers::Refusal;
+ghost use mathlib.Core.Path.{_≡_};
+ghost use Prim.Native.Nat.{_/_, _≤_, _<_};
+ghost use lib.ListN.{length};
+ghost use Rattle.bases.specs.Tells.{Tells};
+ghost use Rattle.shapes.specs.All.{All};
+ghost use Rattle.shapes.specs.Shape.{Sound, total};
+ghost use Rattle.shapes.specs.Lent.{meant, blockAt, shapeOf, BlocksChecked, ShapeChecked};
+ghost use Rattle.shapes.specs.Code.{SoundUpTo};
+
+// The four numbers of a block.
+pub struct Words {
+    pub low: u64,
+    pub high: u64,
+    pub lower: u64,
+    pub upper: u64,
+}
+
+// Block i, from 0, of a lent shape.
+pub fn block_at(shape: &[u64], i: usize) -> Words
+    requires { ⌜ i < length (now shape) / 4 ⌝ }
+    ensures { λ r. ⌜ meant r ≡ blockAt (now (shape .entry)) i ⌝ }
+{
+    let at = i * 4;
+    Words {
+        low: shape[at],
+        high: shape[at + 1],
+        lower: shape[at + 2],
+        upper: shape[at + 3],
+    }
+}
+
+// Whether a block is sound. The numbers may be any.
+pub fn is_sound(b: Words) -> bool
+    ensures { λ r. ⌜ Tells r (Sound (meant b)) ⌝ }
+{
+    if b.upper < b.lower {
+        return false;
+    }
+    if 250 < b.upper {
+        return false;
+    }
+    if bases::is_empty(b.low, b.high) {
+        return b.upper == 0;
+    }
+    b.upper != 0
+}
+
+// How many blocks are sound before the first that is not.
+fn sound_blocks(shape: &[u64]) -> usize
+    ensures { λ r. ⌜ SoundUpTo (now (shape .entry)) r ⌝ }
+{
+    let n = shape.len() / 4;
+    let mut good = 0;
+    while good < n {
+        let b = block_at(shape, good);
+        if !is_sound(b) {
+            return good;
+        }
+        good += 1;
+    }
+    n
+}
+
+// The uppers added. Sound blocks keep the sum small.
+fn total_upper(shape: &[u64]) -> u64
+    requires { ⌜ All Sound (shapeOf (now shape)) ⌝ }
+    requires { ⌜ length (now shape) / 4 ≤ 32 ⌝ }
+    ensures { λ r. ⌜ r ≡ total (shapeOf (now (shape .entry))) ⌝ }
+{
+    let n = shape.len() / 4;
+    let mut sum = 0;
+    let mut i = 0;
+    while i < n {
+        let b = block_at(shape, i);
+        sum += b.upper;
+        i += 1;
+    }
+    sum
+}
+
+// Refusals 2 and 3 of the blocks of shape number `number`.
+pub fn check_blocks(shape: &[u64], number: u64) -> Checked
+    requires { ⌜ length (now shape) / 4 ≤ 32 ⌝ }
+    ensures { λ r. ⌜ BlocksChecked number (shapeOf (now (shape .entry))) r ⌝ }
+{
+    let good = sound_blocks(shape);
+    if good < shape.len() / 4 {
+        return Checked::Refused(Refusal::Block(number, good as u64 + 1));
+    }
+    if 250 < total_upper(shape) {
+        return Checked::Refused(Refusal::Total(number));
+    }
+    Checked::Sound
+}
+
+// Refusals 1, 2 and 3 of the numbers lent for shape number `number`.
+pub fn check_lent(shape: &[u64], number: u64) -> Checked
+    ensures { λ r. ⌜ ShapeChecked number (now (shape .entry)) r ⌝ }
+{
+    let n = shape.len();
+    if n % 4 != 0 {
+        return Checked::Refused(Refusal::Length(number));
+    }
+    if n == 0 {
+        return Checked::Refused(Refusal::Length(number));
+    }
+    if 128 < n {
+        return Checked::Refused(Refusal::Length(number));
+    }
+    check_blocks(shape, number)
+}

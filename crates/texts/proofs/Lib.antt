@@ -1,0 +1,3 @@
+-- The laws of the order of texts that other crates cite.
+pub mod Order
+pub mod Rests

@@ -1,0 +1,2 @@
+-- The order of texts.
+pub mod Order
