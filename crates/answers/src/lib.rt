@@ -41,6 +41,20 @@ pub enum Swept {
     Refused(Refusal),
 }
 
+// What narrowing finds: the narrowed shapes, written to the outputs, or that no pair of texts satisfies the relation.
+pub enum Narrowed {
+    Narrow,
+    None,
+    Refused(Refusal),
+}
+
+// How a book's run ends: with stable shapes or in none, with the applications made.
+pub enum Ran {
+    Stable(u64),
+    None(u64),
+    Refused(Refusal),
+}
+
 pub fn number(r: Refusal) -> u64
     ensures { λ n. ⌜ n ≡ told r .number ⌝ }
 {

@@ -7,3 +7,4 @@ pub mod Turn
 pub mod Frame
 pub mod Named
 pub mod Runs
+pub mod Sides

@@ -1,0 +1,2 @@
+-- What an order asks of each side alone.
+pub mod Ordered

@@ -1,0 +1,3 @@
+-- What the calls on a pair of shapes promise, and why they are refused.
+pub mod Pair
+pub mod Narrow

@@ -1,0 +1,2 @@
+-- The table is proved.
+pub mod Rows

@@ -1,0 +1,11 @@
+-- All rows, by computing the definitions. Assumes nothing.
+use mathlib.Core.Path.{refl}
+use lib.Count.{leadingZeros}
+use Rattle.bases.specs.Base.{greatestOf}
+use Rattle.shapes.specs.Shape.{textOf}
+use Rattle.extremes.specs.Steps.{successor, runs}
+use Rattle.table.specs.Rows.{Rows}
+
+pub rows : Rows
+unfolding textOf successor runs greatestOf leadingZeros
+rows = record { P8 = refl }

@@ -1,0 +1,3 @@
+-- The rows of document 01's table that are marked P.
+pub mod Letters
+pub mod Rows
