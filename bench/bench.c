@@ -1,0 +1,151 @@
+// Times the proved calls beside plain C functions of the same method, in one run, and prints each ratio.
+#include <stdint.h>
+#include <stdio.h>
+#include <stdlib.h>
+#include <string.h>
+#include <time.h>
+
+// The proved calls: a slice is a pointer and a length.
+uint64_t wedgeotter_fits(const uint64_t *shape, size_t n, const uint8_t *text, size_t k);
+uint64_t wedgeotter_least(const uint64_t *shape, size_t n, uint8_t *out, size_t k);
+
+static double now(void) {
+    struct timespec t;
+    clock_gettime(CLOCK_MONOTONIC, &t);
+    return t.tv_sec * 1e9 + t.tv_nsec;
+}
+
+static int holds(const uint64_t *b, uint8_t c) { return c < 128 && (b[c / 64] >> (c % 64) & 1); }
+
+// Shape checking as document 01 asks.
+static int plain_check(const uint64_t *s, size_t n) {
+    if (n % 4 || n == 0 || n > 128) return 0;
+    uint64_t total = 0;
+    for (size_t i = 0; i < n; i += 4) {
+        int empty = (s[i] | s[i + 1]) == 0;
+        if (s[i + 2] > s[i + 3] || s[i + 3] > 250 || empty != (s[i + 3] == 0)) return 0;
+    }
+    for (size_t i = 0; i < n; i += 4) total += s[i + 3];
+    return total <= 250;
+}
+
+static uint64_t plain_fits(const uint64_t *s, size_t n, const uint8_t *t, size_t k) {
+    if (!plain_check(s, n)) return 1000;
+    if (k > 250) return 0;
+    uint8_t a[251], b[251], *after = a, *row = b;
+    memset(a, 0, sizeof a);
+    after[k] = 1;
+    for (size_t i = n; i > 0; i -= 4) {
+        const uint64_t *w = s + i - 4;
+        size_t end = k, near = k + 1;
+        memset(row, 0, 251);
+        for (size_t p = k + 1; p-- > 0;) {
+            if (p == k) end = k;
+            else if (!holds(w, t[p])) end = p;
+            if (w[2] <= k - p && after[p + w[2]] == 1) near = p + w[2];
+            row[p] = near <= end && near - p <= w[3];
+        }
+        uint8_t *x = after;
+        after = row;
+        row = x;
+    }
+    return after[0];
+}
+
+static uint64_t plain_least(const uint64_t *s, size_t n, uint8_t *out, size_t k) {
+    if (!plain_check(s, n) || k < 250) return 1000;
+    uint64_t count[32];
+    int succ = -1; // the end; 2c + 1 just above c, 2c - 1 just below it, against 2c
+    for (size_t i = n / 4; i-- > 0;) {
+        const uint64_t *w = s + 4 * i;
+        if (w[3] == 0) {
+            count[i] = 0;
+            continue;
+        }
+        int c = w[0] ? __builtin_ctzll(w[0]) : 64 + __builtin_ctzll(w[1]);
+        int first = 2 * c < succ;
+        count[i] = first ? w[3] : w[2];
+        if (count[i]) succ = first ? 2 * c + 1 : 2 * c - 1;
+    }
+    size_t at = 0;
+    for (size_t i = 0; i < n / 4; i++) {
+        const uint64_t *w = s + 4 * i;
+        if (!count[i]) continue;
+        int c = w[0] ? __builtin_ctzll(w[0]) : 64 + __builtin_ctzll(w[1]);
+        memset(out + at, c, count[i]);
+        at += count[i];
+    }
+    return at;
+}
+
+static uint64_t seed = 88172645463325252ull;
+static uint64_t rnd(uint64_t n) {
+    seed ^= seed << 13;
+    seed ^= seed >> 7;
+    seed ^= seed << 17;
+    return seed % n;
+}
+
+// A random shape of so many blocks and so many characters at most.
+static size_t make(uint64_t *s, size_t blocks, uint64_t most) {
+    for (size_t i = 0; i < blocks; i++) {
+        uint64_t u = most / blocks;
+        s[4 * i] = 0;
+        s[4 * i + 1] = (rnd(15) + 1) << 33;
+        s[4 * i + 2] = rnd(u + 1) / 2;
+        s[4 * i + 3] = u;
+    }
+    return 4 * blocks;
+}
+
+#define SHAPES 64
+static uint64_t shape[SHAPES][128];
+static size_t length[SHAPES];
+static uint8_t text[SHAPES][250];
+static size_t long_[SHAPES];
+
+static void report(const char *what, double ours, double plain) { printf("%-34s %9.0f ns %9.0f ns %6.2f\n", what, ours, plain, ours / plain); }
+
+static void bounds(const char *name, size_t blocks, uint64_t most) {
+    uint8_t out[250];
+    volatile uint64_t sink = 0;
+    for (int i = 0; i < SHAPES; i++) {
+        length[i] = make(shape[i], blocks, most);
+        long_[i] = plain_least(shape[i], length[i], text[i], 250);
+        if (wedgeotter_least(shape[i], length[i], out, 250) != long_[i] || memcmp(out, text[i], long_[i])) {
+            printf("the two least texts differ\n");
+            exit(1);
+        }
+        if (rnd(2) && long_[i]) text[i][rnd(long_[i])] = 97 + rnd(4);
+        if (wedgeotter_fits(shape[i], length[i], text[i], long_[i]) != plain_fits(shape[i], length[i], text[i], long_[i])) {
+            printf("the two answers of fitting differ\n");
+            exit(1);
+        }
+    }
+    char line[80];
+    double best[4] = {1e18, 1e18, 1e18, 1e18};
+    for (int turn = 0; turn < 15; turn++) {
+        double t0 = now();
+        for (int i = 0; i < SHAPES; i++) sink += wedgeotter_fits(shape[i], length[i], text[i], long_[i]);
+        double t1 = now();
+        for (int i = 0; i < SHAPES; i++) sink += plain_fits(shape[i], length[i], text[i], long_[i]);
+        double t2 = now();
+        for (int i = 0; i < SHAPES; i++) sink += wedgeotter_least(shape[i], length[i], out, 250);
+        double t3 = now();
+        for (int i = 0; i < SHAPES; i++) sink += plain_least(shape[i], length[i], out, 250);
+        double t4 = now(), d[4] = {t1 - t0, t2 - t1, t3 - t2, t4 - t3};
+        for (int k = 0; k < 4; k++)
+            if (d[k] < best[k]) best[k] = d[k];
+    }
+    snprintf(line, sizeof line, "fits, %s", name);
+    report(line, best[0] / SHAPES, best[1] / SHAPES);
+    snprintf(line, sizeof line, "least text, %s", name);
+    report(line, best[2] / SHAPES, best[3] / SHAPES);
+}
+
+int main(void) {
+    printf("%-34s %12s %12s %6s\n", "per call, best of 15", "ours", "plain C", "ratio");
+    bounds("8 blocks, 40 characters", 8, 40);
+    bounds("32 blocks, 250 characters", 32, 250);
+    return 0;
+}

@@ -1,0 +1,20 @@
+// The calls as C functions on numbers, for the benchmark alone: an answer becomes a number, a refusal 1000 and more.
+use answers::Fit;
+use answers::Written;
+
+#[no_mangle]
+pub extern "C" fn wedgeotter_fits(shape: &[u64], text: &[u8]) -> u64 {
+    match dashed::fits(shape, text) {
+        Fit::Fits => 1,
+        Fit::Unfit => 0,
+        Fit::Refused(_) => 1000,
+    }
+}
+
+#[no_mangle]
+pub extern "C" fn wedgeotter_least(shape: &[u64], out: &mut [u8]) -> u64 {
+    match dashed::least_text(shape, out) {
+        Written::Text(n) => n as u64,
+        Written::Refused(_) => 1000,
+    }
+}
