@@ -2,8 +2,9 @@
 // and a refusal leaves all lent memory as on entry.
 use answers::Checked;
 use answers::Fit;
+use answers::Swept;
 use answers::Written;
-ghost use Rattle.dashed.specs.Promises.{CheckShape, FitsShape, Earlier, LeastText, GreatestText};
+ghost use Rattle.dashed.specs.Promises.{CheckShape, FitsShape, Earlier, LeastText, GreatestText, Sweep};
 
 // Checks a shape, lent as 64-bit numbers, four to a block.
 pub fn check_shape(shape: &[u64]) -> Checked
@@ -38,4 +39,12 @@ pub fn greatest_text(shape: &[u64], out: &mut [u8]) -> Written
     ensures { λ r. ⌜ GreatestText (now (shape .entry)) (now (out .entry)) (now (out .exit)) r ⌝ }
 {
     extremes::greatest_text(shape, out)
+}
+
+// The quick sweep of x in y: a place for each block of x, block and offset, into an output of two numbers per block, or that there cannot be a common text;
+// with the looks made.
+pub fn sweep(x: &[u64], y: &[u64], out: &mut [u64]) -> Swept
+    ensures { λ r. ⌜ Sweep (now (x .entry)) (now (y .entry)) (now (out .entry)) (now (out .exit)) r ⌝ }
+{
+    pair_calls::sweep(x, y, out)
 }

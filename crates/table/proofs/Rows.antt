@@ -4,8 +4,9 @@ use lib.Count.{leadingZeros}
 use Rattle.bases.specs.Base.{greatestOf}
 use Rattle.shapes.specs.Shape.{textOf}
 use Rattle.extremes.specs.Steps.{successor, runs}
+use Rattle.sweep_steps.proofs.Table.{rows as sweep-rows}
 use Rattle.table.specs.Rows.{Rows}
 
 pub rows : Rows
 unfolding textOf successor runs greatestOf leadingZeros
-rows = record { P8 = refl }
+rows = record { P8 = refl; P9-P13 = sweep-rows }

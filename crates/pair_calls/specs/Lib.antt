@@ -1,0 +1,2 @@
+-- What the calls on a pair of shapes promise.
+pub mod Sweep

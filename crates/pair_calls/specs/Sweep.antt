@@ -1,0 +1,31 @@
+-- Document 01, "The quick sweep": what the call promises. Lent: two shapes xs and ys, an output; out′ is the output as handed back.
+use mathlib.Core.Path.{_≡_}
+use mathlib.Core.List.{List}
+use Prim.Native.Nat.{ℕ, _*_, _≤_, _<_}
+use lib.ListN.{length}
+use Rattle.answers.specs.Told.{Told, tell, told}
+use Rattle.answers.specs.declared.Swept.{Swept}
+use Rattle.answers.specs.declared.Swept.the-variants.{Places, Cannot, Refused}
+use Rattle.shapes.specs.Lent.{shapeOf}
+use Rattle.pairs.specs.Pair.{PairAccepted, PairRefused}
+use Rattle.sweep_steps.specs.Steps.{sweepOf}
+use Rattle.sweeps.specs.Read.{sweptOf, outputOf}
+use Rattle.sweeps.specs.Meaning.{Means}
+
+-- The refusals: those of the pair, then 5 for an output shorter than two numbers per block of X.
+pub data SweepRefused (xs ys : List ℕ) (n : ℕ) (t : Told) : Type 0 where
+  shapes : PairRefused xs ys t → SweepRefused xs ys n t
+  output : PairAccepted xs ys → n < 2 * length (shapeOf xs) → t ≡ tell 5 0 0 → SweepRefused xs ys n t
+
+-- An accepted sweep: the answer with its looks, and every cell of the output, are those of the steps; and what they are worth.
+pub record SweepDone (xs ys out out′ : List ℕ) (r : Swept) : Type 0 where
+  pub accepted : PairAccepted xs ys
+  pub room : 2 * length (shapeOf xs) ≤ length out
+  pub answer : r ≡ sweptOf (sweepOf (shapeOf xs) (shapeOf ys))
+  pub output : out′ ≡ outputOf (sweepOf (shapeOf xs) (shapeOf ys)) out
+  pub meaning : Means (shapeOf xs) (shapeOf ys) r out′
+
+abbrev pub SweepPromise : List ℕ → List ℕ → List ℕ → List ℕ → Swept → Type 0
+SweepPromise xs ys out out′ (Places k) = SweepDone xs ys out out′ (Places k)
+SweepPromise xs ys out out′ (Cannot k) = SweepDone xs ys out out′ (Cannot k)
+SweepPromise xs ys out out′ (Refused r) = SweepRefused xs ys (length out) (told r) × (out′ ≡ out)

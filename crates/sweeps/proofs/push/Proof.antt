@@ -1,0 +1,86 @@
+-- `sweeps::push`: the loop keeps what the rest of the definition's loop comes to. Assumes nothing.
+use Prim.Native.Nat.{_+_, _-_}
+use native.Mathlib.Omega.{arith}
+use borrow.Author.Needs.{needs}
+use Rattle.shapes.specs.Lent.{meant, shapeOf}
+use Rattle.shapes.proofs.Lent.{shape-length}
+use Rattle.sweeps.proofs.Turn.{PushKept, push-begins, push-past, push-done, push-ended, push-restarted, push-went-on}
+use Rattle.sweeps.proofs.push.Statement.{statement}
+use Rattle.sweeps.proofs.push.Tie as tie
+
+abbrev Inv-loop : tie.InvT-loop
+Inv-loop s y lower m k₀ start₀ i₀ o₀ looks₀ k start i o looks = PushKept (meant s) (shapeOf y) start₀ k start (i .0) (o .0) looks
+
+abbrev μ-loop : tie.MeasureT-loop
+μ-loop s y lower m k₀ start₀ i₀ o₀ looks₀ k start i o looks = m + 1 - i .0
+
+loop-holds : tie.Need-loop-holds Inv-loop μ-loop
+loop-holds c = push-begins _ _ _ (c .before .before .before .pre)
+
+returns : tie.Need-returns Inv-loop μ-loop
+returns c = push-done _ _ _ _ _ _ _ _ (c .before .before .before .loop .inv) (let m = shape-length (c .before .before .before .before .before .before .before .args .y .now) in omega (arith, c .before .if1 .taken)) (c .if2 .taken)
+
+block-requires : tie.Need-block-requires Inv-loop μ-loop
+block-requires c κs = (c .before .before .before .loop .inv .first, c .before .if1 .taken)
+
+push-look-requires : tie.Need-push-look-requires Inv-loop μ-loop
+push-look-requires c κs = search needs
+
+add-looks : tie.Need-add-looks Inv-loop μ-loop
+add-looks c = omega (arith, c .before .before .before .if1 .taken, c .before .before .before .before .before .loop .inv .counted)
+
+enum-known-look : tie.Need-enum-known-look Inv-loop μ-loop
+enum-known-look c = search needs
+
+returns-2 : tie.Need-returns-2 Inv-loop μ-loop
+returns-2 c = push-ended _ _ _ _ _ _ _ _ (c .before .before .before .before .before .before .before .before .loop .inv) (let m = shape-length (c .before .before .before .before .before .before .before .before .before .before .before .before .args .y .now) in omega (arith, c .before .before .before .before .before .before .if1 .taken)) (c .before .before .before .before .before .if2 .left) _ (c .before .before .before .before .block .ensures) _ (c .before .before .before .push-look .ensures) _ (c .before .look .given .1)
+
+enum-told : tie.Need-enum-told Inv-loop μ-loop
+enum-told c = search needs
+
+add-t20 : tie.Need-add-t20 Inv-loop μ-loop
+add-t20 c = omega (arith, c .before .before .before .before .before .before .if1 .taken)
+
+loop-less : tie.Need-loop-less Inv-loop μ-loop
+loop-less c = omega (arith, c .before .before .before .before .before .before .if1 .taken)
+
+loop-again : tie.Need-loop-again Inv-loop μ-loop
+loop-again c = push-restarted _ _ _ _ _ _ _ _ (c .before .before .before .before .before .before .before .before .loop .inv) (let m = shape-length (c .before .before .before .before .before .before .before .before .before .before .before .before .args .y .now) in omega (arith, c .before .before .before .before .before .before .if1 .taken)) (c .before .before .before .before .before .if2 .left) _ (c .before .before .before .before .block .ensures) _ (c .before .before .before .push-look .ensures) (c .before .enum-told .given .1)
+
+enum-known-look-2 : tie.Need-enum-known-look-2 Inv-loop μ-loop
+enum-known-look-2 c = search needs
+
+add-t21 : tie.Need-add-t21 Inv-loop μ-loop
+add-t21 c = omega (arith, c .before .before .before .before .before .before .before .if1 .taken)
+
+loop-less-2 : tie.Need-loop-less-2 Inv-loop μ-loop
+loop-less-2 c = omega (arith, c .before .before .before .before .before .before .before .if1 .taken)
+
+loop-again-2 : tie.Need-loop-again-2 Inv-loop μ-loop
+loop-again-2 c = push-went-on _ _ _ _ _ _ _ _ (c .before .before .before .before .before .before .before .before .before .loop .inv) (let m = shape-length (c .before .before .before .before .before .before .before .before .before .before .before .before .before .args .y .now) in omega (arith, c .before .before .before .before .before .before .before .if1 .taken)) (c .before .before .before .before .before .before .if2 .left) _ (c .before .before .before .before .before .block .ensures) _ (c .before .before .before .before .push-look .ensures) _ (c .before .before .look2 .given .1)
+
+returns-3 : tie.Need-returns-3 Inv-loop μ-loop
+returns-3 c = push-past _ _ _ _ _ _ _ _ (c .before .before .loop .inv) (let m = shape-length (c .before .before .before .before .before .before .args .y .now) in omega (arith, c .if1 .left))
+
+pub push-spec : {M : Type 1} → statement M
+push-spec =
+    tie.close
+    (tie.spec
+    Inv-loop
+    μ-loop
+    loop-holds
+    returns
+    block-requires
+    push-look-requires
+    add-looks
+    enum-known-look
+    returns-2
+    enum-told
+    add-t20
+    loop-less
+    loop-again
+    enum-known-look-2
+    add-t21
+    loop-less-2
+    loop-again-2
+    returns-3)

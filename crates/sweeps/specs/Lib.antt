@@ -1,0 +1,3 @@
+-- How the quick sweep's lent numbers and outputs are read.
+pub mod Read
+pub mod Meaning
