@@ -8,6 +8,7 @@
 // The proved calls: a slice is a pointer and a length.
 uint64_t wedgeotter_fits(const uint64_t *shape, size_t n, const uint8_t *text, size_t k);
 uint64_t wedgeotter_least(const uint64_t *shape, size_t n, uint8_t *out, size_t k);
+uint64_t wedgeotter_sweep(const uint64_t *x, size_t n, const uint64_t *y, size_t m, uint64_t *out, size_t k);
 
 static double now(void) {
     struct timespec t;
@@ -78,6 +79,77 @@ static uint64_t plain_least(const uint64_t *s, size_t n, uint8_t *out, size_t k)
     return at;
 }
 
+// The quick sweep by document 01's steps. Places are block numbers from 1 and offsets.
+struct place {
+    uint64_t block, offset;
+};
+
+static int meets(const uint64_t *a, const uint64_t *b) { return (a[0] & b[0]) || (a[1] & b[1]); }
+
+static uint64_t plain_sweep(const uint64_t *x, size_t nx, const uint64_t *y, size_t ny, uint64_t *out, size_t k) {
+    if (!plain_check(x, nx) || !plain_check(y, ny) || k < nx / 2) return 1000;
+    uint64_t n = nx / 4, m = ny / 4, looks = 0;
+    struct place kept[32], at = {1, 0};
+    for (uint64_t b = n; b-- > 0;) {
+        const uint64_t *s = x + 4 * b;
+        uint64_t left = s[3], i = at.block, o = at.offset;
+        for (; i <= m; i++, o = 0) {
+            const uint64_t *t = y + 4 * (m - i);
+            looks++;
+            if (t[2] <= o) continue;
+            if (!meets(s, t)) break;
+            if (left < t[2] - o) {
+                o += left;
+                break;
+            }
+            left -= t[2] - o;
+        }
+        at.block = i;
+        at.offset = o;
+        if (i > m) kept[b] = (struct place){1, 0};
+        else kept[b] = (struct place){m + 1 - i, y[4 * (m - i) + 2] - o};
+    }
+    if (kept[0].block != 1 || kept[0].offset != 0) return 100000;
+    struct place end = {1, 0}, start[32];
+    for (uint64_t b = 0; b < n; b++) {
+        const uint64_t *s = x + 4 * b;
+        struct place from = kept[b];
+        if (from.block < end.block || (from.block == end.block && from.offset < end.offset)) from = end;
+        uint64_t left = s[2], i = from.block, o = from.offset;
+        start[b] = from;
+        while (left > 0 && i <= m) {
+            const uint64_t *t = y + 4 * (i - 1);
+            looks++;
+            if (!meets(s, t)) {
+                int must = t[2] > o;
+                i++;
+                o = 0;
+                if (must) {
+                    start[b] = (struct place){i, 0};
+                    left = s[2];
+                }
+                continue;
+            }
+            if (left <= t[3] - o) {
+                o += left;
+                left = 0;
+            } else {
+                left -= t[3] - o;
+                i++;
+                o = 0;
+            }
+        }
+        if (left) return 100000;
+        end.block = i;
+        end.offset = o;
+    }
+    for (uint64_t b = 0; b < n; b++) {
+        out[2 * b] = start[b].block;
+        out[2 * b + 1] = start[b].offset;
+    }
+    return looks;
+}
+
 static uint64_t seed = 88172645463325252ull;
 static uint64_t rnd(uint64_t n) {
     seed ^= seed << 13;
@@ -143,9 +215,41 @@ static void bounds(const char *name, size_t blocks, uint64_t most) {
     report(line, best[2] / SHAPES, best[3] / SHAPES);
 }
 
+// The sweep of each shape in the next one. Half of the pairs are a shape against itself, so that many have places.
+static void sweeps(const char *name, size_t blocks, uint64_t most) {
+    uint64_t a[64], b[64];
+    volatile uint64_t sink = 0;
+    for (int i = 0; i < SHAPES; i++) length[i] = make(shape[i], blocks, most);
+    for (int i = 0; i + 1 < SHAPES; i += 4) memcpy(shape[i + 1], shape[i], sizeof shape[i]);
+    for (int i = 0; i < SHAPES; i++) {
+        int j = (i + 1) % SHAPES;
+        memset(a, 0, sizeof a);
+        memset(b, 0, sizeof b);
+        if (wedgeotter_sweep(shape[i], length[i], shape[j], length[j], a, 64) != plain_sweep(shape[i], length[i], shape[j], length[j], b, 64) || memcmp(a, b, sizeof a)) {
+            printf("the two sweeps differ\n");
+            exit(1);
+        }
+    }
+    double best[2] = {1e18, 1e18};
+    for (int turn = 0; turn < 15; turn++) {
+        double t0 = now();
+        for (int i = 0; i < SHAPES; i++) sink += wedgeotter_sweep(shape[i], length[i], shape[(i + 1) % SHAPES], length[(i + 1) % SHAPES], a, 64);
+        double t1 = now();
+        for (int i = 0; i < SHAPES; i++) sink += plain_sweep(shape[i], length[i], shape[(i + 1) % SHAPES], length[(i + 1) % SHAPES], b, 64);
+        double t2 = now(), d[2] = {t1 - t0, t2 - t1};
+        for (int k = 0; k < 2; k++)
+            if (d[k] < best[k]) best[k] = d[k];
+    }
+    char line[80];
+    snprintf(line, sizeof line, "sweep, %s", name);
+    report(line, best[0] / SHAPES, best[1] / SHAPES);
+}
+
 int main(void) {
     printf("%-34s %12s %12s %6s\n", "per call, best of 15", "ours", "plain C", "ratio");
     bounds("8 blocks, 40 characters", 8, 40);
     bounds("32 blocks, 250 characters", 32, 250);
+    sweeps("8 blocks", 8, 40);
+    sweeps("32 blocks", 32, 250);
     return 0;
 }

@@ -1,5 +1,6 @@
 // The calls as C functions on numbers, for the benchmark alone: an answer becomes a number, a refusal 1000 and more.
 use answers::Fit;
+use answers::Swept;
 use answers::Written;
 
 #[no_mangle]
@@ -16,5 +17,15 @@ pub extern "C" fn wedgeotter_least(shape: &[u64], out: &mut [u8]) -> u64 {
     match dashed::least_text(shape, out) {
         Written::Text(n) => n as u64,
         Written::Refused(_) => 1000,
+    }
+}
+
+// The looks made, and 100000 for cannot.
+#[no_mangle]
+pub extern "C" fn wedgeotter_sweep(x: &[u64], y: &[u64], out: &mut [u64]) -> u64 {
+    match dashed::sweep(x, y, out) {
+        Swept::Places(k) => k,
+        Swept::Cannot(_) => 100000,
+        Swept::Refused(_) => 1000,
     }
 }
