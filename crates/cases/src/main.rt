@@ -8,16 +8,15 @@
 //     G n w w ..       the same with the greatest text
 //
 // A number and a word of a shape are hex, a text is its bytes as hex pairs and `-` if it is empty.
-mod fields;
 mod show;
 
-ghost use Rattle.io.specs.Counts.{Counts};
 use answers::Written;
-use fields::find;
-use fields::first_field;
-use fields::later_fields;
-use fields::read_text;
-use fields::read_words;
+use lines::fields::find;
+use lines::fields::first_field;
+use lines::fields::later_fields;
+use lines::fields::read_text;
+use lines::fields::read_words;
+use lines::fields::within;
 
 fn main() {
     let mut input = [0u8; 400000];
@@ -49,7 +48,7 @@ fn case(line: &[u8]) {
         b'O' => order_case(rest),
         b'L' => bound_case(rest, false),
         b'G' => bound_case(rest, true),
-        _ => show::line(b"no such case"),
+        _ => lines::show::line(b"no such case"),
     }
 }
 
@@ -74,8 +73,8 @@ fn order_case(rest: &[u8]) {
     let k = read_text(first_field(rest), &mut first);
     let mut second = [0u8; 400];
     let m = read_text(first_field(later_fields(rest)), &mut second);
-    show::text(dashed::earlier(&first[..k], &second[..m]));
-    show::line(b"");
+    lines::show::text(dashed::earlier(&first[..k], &second[..m]));
+    lines::show::line(b"");
 }
 
 // The first number is the output's length.
@@ -100,14 +99,4 @@ fn bound(greatest: bool, shape: &[u64], out: &mut [u8]) -> Written {
         return dashed::greatest_text(shape, out);
     }
     dashed::least_text(shape, out)
-}
-
-// The number, or the row's length if that is less.
-fn within(n: u64, row: &[u8]) -> usize
-    ensures { λ r. ⌜ Counts r (now (row .entry)) ⌝ }
-{
-    if n < row.len() as u64 {
-        return n as usize;
-    }
-    row.len()
 }

@@ -1,17 +1,17 @@
--- `cases::fields::read_text` meets its contract: the count stays within the row.
+-- `lines::fields::copy_numbers` meets its contract: the count stays within the row.
 use borrow.Author.Needs.{needs}
 use Prim.Native.Nat.{_≤_, _-_}
 use mathlib.Core.Path.{_≡_, sym}
 use lib.ListN.{length, length-set}
 use lib.Seq.{length-take-le}
-use Rattle.cases.proofs.fields.read_text.Statement.{statement}
-use Rattle.cases.proofs.fields.read_text.Tie as tie
+use Rattle.lines.proofs.fields.copy_numbers.Statement.{statement}
+use Rattle.lines.proofs.fields.copy_numbers.Tie as tie
 
 abbrev Inv-loop : tie.InvT-loop
-Inv-loop field row₀ pairs i₀ row i = (i ≤ pairs) × (i ≤ length row) × (length row ≡ length row₀)
+Inv-loop numbers row₀ i₀ row i = (i ≤ length numbers) × (i ≤ length row) × (length row ≡ length row₀)
 
 abbrev μ-loop : tie.MeasureT-loop
-μ-loop field row₀ pairs i₀ row i = pairs - i
+μ-loop numbers row₀ i₀ row i = length numbers - i
 
 loop-holds : tie.Need-loop-holds Inv-loop μ-loop
 loop-holds c = search needs
@@ -22,23 +22,14 @@ same-length c = search needs
 returns : tie.Need-returns Inv-loop μ-loop
 returns c = (search needs, sym (length-take-le _ _ (search needs)))
 
-mul-pair : tie.Need-mul-pair Inv-loop μ-loop
-mul-pair c = search needs
+mul-row : tie.Need-mul-row Inv-loop μ-loop
+mul-row c = search needs
 
-shared-slice-read-pair : tie.Need-shared-slice-read-pair Inv-loop μ-loop
-shared-slice-read-pair c = search needs
+shared-slice-read-row : tie.Need-shared-slice-read-row Inv-loop μ-loop
+shared-slice-read-row c = search needs
 
-mul-pair-2 : tie.Need-mul-pair-2 Inv-loop μ-loop
-mul-pair-2 c = search needs
-
-add-pair : tie.Need-add-pair Inv-loop μ-loop
-add-pair c = search needs
-
-shared-slice-read-pair-2 : tie.Need-shared-slice-read-pair-2 Inv-loop μ-loop
-shared-slice-read-pair-2 c = search needs
-
-pair-requires : tie.Need-pair-requires Inv-loop μ-loop
-pair-requires c κs = search needs
+mul-row-2 : tie.Need-mul-row-2 Inv-loop μ-loop
+mul-row-2 c = search needs
 
 slice-write-row : tie.Need-slice-write-row Inv-loop μ-loop
 slice-write-row c = search needs
@@ -58,8 +49,8 @@ same-length-2 c = search needs
 returns-2 : tie.Need-returns-2 Inv-loop μ-loop
 returns-2 c = (search needs, sym (length-take-le _ _ (search needs)))
 
-pub read-text-spec : {M : Type 1} → statement M
-read-text-spec =
+pub copy-numbers-spec : {M : Type 1} → statement M
+copy-numbers-spec =
     tie.close
     (tie.spec
     Inv-loop
@@ -67,12 +58,9 @@ read-text-spec =
     loop-holds
     same-length
     returns
-    mul-pair
-    shared-slice-read-pair
-    mul-pair-2
-    add-pair
-    shared-slice-read-pair-2
-    pair-requires
+    mul-row
+    shared-slice-read-row
+    mul-row-2
     slice-write-row
     add-i
     loop-less

@@ -1,11 +1,11 @@
--- `cases::show::hex_pairs` meets its contract: each byte takes the next two places of the row.
+-- `lines::show::hex_pairs` meets its contract: each byte takes the next two places of the row.
 use borrow.Author.Needs.{needs}
 use Prim.Native.Nat.{_≤_, _*_, _-_}
 use mathlib.Core.Path.{_≡_, sym}
 use lib.ListN.{length, length-set}
 use lib.Seq.{length-take-le}
-use Rattle.cases.proofs.show.hex_pairs.Statement.{statement}
-use Rattle.cases.proofs.show.hex_pairs.Tie as tie
+use Rattle.lines.proofs.show.hex_pairs.Statement.{statement}
+use Rattle.lines.proofs.show.hex_pairs.Tie as tie
 
 abbrev Inv-loop : tie.InvT-loop
 Inv-loop bytes row₀ i₀ row i = (i ≤ length bytes) × (2 * i ≤ length row) × (length row ≡ length row₀)

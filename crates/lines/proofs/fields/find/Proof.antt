@@ -1,9 +1,9 @@
--- `cases::fields::find` meets its contract: the place never passes the end.
+-- `lines::fields::find` meets its contract: the place never passes the end.
 use borrow.Author.Needs.{needs}
 use Prim.Native.Nat.{_≤_, _-_}
 use lib.ListN.{length}
-use Rattle.cases.proofs.fields.find.Statement.{statement}
-use Rattle.cases.proofs.fields.find.Tie as tie
+use Rattle.lines.proofs.fields.find.Statement.{statement}
+use Rattle.lines.proofs.fields.find.Tie as tie
 
 abbrev Inv-loop : tie.InvT-loop
 Inv-loop s from mark i₀ i = (from ≤ i) × (i ≤ length s)

@@ -1,4 +1,4 @@
-// The fields of a line.
+// The fields of a line, and lists among its numbers.
 ghost use Prim.Native.Nat.{_≤_, _<_};
 ghost use lib.ListN.{length};
 ghost use Rattle.io.specs.Counts.{Counts};
@@ -95,4 +95,59 @@ pub fn read_text(field: &[u8], row: &mut [u8]) -> usize
 // The byte of two hex digits.
 fn pair(high: u8, low: u8) -> u8 {
     digit(high) * 16 + digit(low)
+}
+
+// The number, or the row's length if that is less.
+pub fn within(n: u64, row: &[u8]) -> usize
+    ensures { λ r. ⌜ Counts r (now (row .entry)) ⌝ }
+{
+    if n < row.len() as u64 {
+        return n as usize;
+    }
+    row.len()
+}
+
+// The same for a row of numbers.
+pub fn within_numbers(n: u64, row: &[u64]) -> usize
+    ensures { λ r. ⌜ Counts r (now (row .entry)) ⌝ }
+{
+    if n < row.len() as u64 {
+        return n as usize;
+    }
+    row.len()
+}
+
+// The list that the numbers begin with, behind its count.
+pub fn first_list(numbers: &[u64]) -> &[u64] {
+    if numbers.len() == 0 {
+        return numbers;
+    }
+    let rest = &numbers[1..];
+    let n = within_numbers(numbers[0], rest);
+    &rest[..n]
+}
+
+// What follows that list.
+pub fn later_lists(numbers: &[u64]) -> &[u64] {
+    if numbers.len() == 0 {
+        return numbers;
+    }
+    let rest = &numbers[1..];
+    let n = within_numbers(numbers[0], rest);
+    &rest[n..]
+}
+
+// Copies the numbers into the row, as many as it has room for, and answers how many that are.
+pub fn copy_numbers(numbers: &[u64], row: &mut [u64]) -> usize
+    ensures { λ r. ⌜ Counts r (now (row .exit)) ⌝ }
+{
+    let mut i = 0;
+    while i < numbers.len() {
+        if row.len() <= i {
+            return i;
+        }
+        row[i] = numbers[i];
+        i += 1;
+    }
+    i
 }

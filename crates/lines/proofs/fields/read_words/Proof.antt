@@ -1,11 +1,11 @@
--- `cases::fields::read_words` meets its contract: each turn takes a field, and the count stays within the row.
+-- `lines::fields::read_words` meets its contract: each turn takes a field, and the count stays within the row.
 use borrow.Author.Needs.{needs}
 use Prim.Native.Nat.{_≤_, _-_}
 use mathlib.Core.Path.{_≡_, sym}
 use lib.ListN.{length, length-set}
 use lib.Seq.{length-take-le}
-use Rattle.cases.proofs.fields.read_words.Statement.{statement}
-use Rattle.cases.proofs.fields.read_words.Tie as tie
+use Rattle.lines.proofs.fields.read_words.Statement.{statement}
+use Rattle.lines.proofs.fields.read_words.Tie as tie
 
 abbrev Inv-loop : tie.InvT-loop
 Inv-loop rest row₀ n₀ at₀ row n at = (at ≤ length rest) × (n ≤ length row) × (length row ≡ length row₀)

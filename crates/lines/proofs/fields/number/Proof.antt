@@ -1,9 +1,9 @@
--- `cases::fields::number` is safe and ends: the remainder is below 2 ^ 60, so that one more digit fits.
+-- `lines::fields::number` is safe and ends: the remainder is below 2 ^ 60, so that one more digit fits.
 use borrow.Author.Needs.{needs}
 use Prim.Native.Nat.{_≤_, _-_}
 use lib.ListN.{length}
-use Rattle.cases.proofs.fields.number.Statement.{statement}
-use Rattle.cases.proofs.fields.number.Tie as tie
+use Rattle.lines.proofs.fields.number.Statement.{statement}
+use Rattle.lines.proofs.fields.number.Tie as tie
 
 abbrev Inv-loop : tie.InvT-loop
 Inv-loop field value₀ i₀ value i = i ≤ length field

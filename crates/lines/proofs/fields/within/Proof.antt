@@ -1,9 +1,9 @@
--- `cases::within` meets its contract: the number is below the length, or is the length.
+-- `lines::fields::within` meets its contract: the number is below the length, or is the length.
 use borrow.Author.Needs.{needs}
 use mathlib.Core.Path.{sym}
 use lib.Seq.{length-take-le}
-use Rattle.cases.proofs.within.Statement.{statement}
-use Rattle.cases.proofs.within.Tie as tie
+use Rattle.lines.proofs.fields.within.Statement.{statement}
+use Rattle.lines.proofs.fields.within.Tie as tie
 
 returns : tie.Need-returns
 returns c = (search needs, sym (length-take-le _ _ (search needs)))

@@ -1,0 +1,285 @@
+"""Making and reading cases: the fields of a line, shapes as document 01 writes them, and shapes by chance."""
+
+import re
+
+from shapes import MOST_BLOCKS, MOST_CHARACTERS, fillings, shape_of
+
+# Every program reads all of its input at once.
+INPUT_ROOM = 400_000
+
+# What the cells of an output of numbers hold before a call.
+NUMBER_FILLER = 0xA5A5
+
+
+# Fields.
+
+
+def numbers_read(fields):
+    return [int(field, 16) for field in fields]
+
+
+def hexes(numbers):
+    return [f"{number:x}" for number in numbers]
+
+
+def counted(numbers):
+    """The numbers of a list with their count before them."""
+    return [len(numbers), *numbers]
+
+
+def lists_read(numbers, count):
+    """So many lists, each after its own count, which have to be all of the numbers."""
+    lists = []
+    for _ in range(count):
+        length, *rest = numbers
+        if length > len(rest):
+            raise AssertionError(f"a list that is cut short: {numbers}")
+        lists.append(rest[:length])
+        numbers = rest[length:]
+    if numbers:
+        raise AssertionError(f"numbers behind the last list: {numbers}")
+    return lists
+
+
+def hold_lines_to_room(lines, most_numbers):
+    """Raises where a program with room for so many numbers to a line could not read the lines."""
+    for line in lines:
+        fields = line.split(" ")[1:]
+        if len(fields) > most_numbers or any(len(field) > 16 for field in fields):
+            raise AssertionError(f"no room for this case: {line}")
+    if sum(len(line) + 1 for line in lines) >= INPUT_ROOM:
+        raise AssertionError("no room for so many cases")
+
+
+# Shapes as they are written.
+
+
+def block(base, lower, upper):
+    """The four numbers of a block."""
+    low = sum(1 << code for code in base if code < 64)
+    high = sum(1 << code - 64 for code in base if code >= 64)
+    return [low, high, lower, upper]
+
+
+def words_of(shape):
+    """The numbers of a shape's blocks."""
+    return [word for base, lower, upper in shape for word in block(base, lower, upper)]
+
+
+WRITTEN = re.compile(r"(?:\{([^}]*)\}|(\S))(\d+)\.\.(\d+)|empty 0\.\.0")
+
+
+def written(shape):
+    """The numbers of a shape as document 01 writes it, as `{a,b}0..3 d5..5 {a..c}1..1`."""
+    words = []
+    for found in WRITTEN.finditer(shape):
+        many, one, lower, upper = found.groups()
+        base = []
+        for part in (many or one or "").split(",") if many or one else []:
+            first, _, last = part.partition("..")
+            base += range(ord(first), ord(last or first) + 1)
+        words += block(base, int(lower or 0), int(upper or 0))
+    return words
+
+
+def many_blocks(count, total):
+    """A shape of so many blocks whose uppers add to `total`, bases by turns A and B."""
+    uppers = [total // count + (number < total % count) for number in range(count)]
+    return [word for number, upper in enumerate(uppers) for word in block(b"A" if number % 2 == 0 else b"B", 0, upper)]
+
+
+def unsound_blocks():
+    """One block for each way of being unsound, the numbers also far above the limits."""
+    yield block(b"A", 2, 1)
+    yield block(b"A", 251, 250)
+    yield block(b"A", 0, 251)
+    yield block(b"A", 251, 251)
+    yield block(b"A", 252, 251)
+    yield block(b"", 0, 1)
+    yield block(b"", 1, 1)
+    yield block(b"", 1, 0)
+    yield block(b"", 0, 251)
+    yield block(b"A", 0, 0)
+    yield block(b"A", 1, 0)
+    # Bases of one character, and bases whose two numbers have 0 as sum, difference or common bits.
+    for base in ((0,), (63,), (64,), (127,), (63, 127), (0, 64), (0, 65), range(64), range(128)):
+        yield block(base, 0, 0)
+    # What a narrower number or a sum that wraps would take for a small count.
+    for far in (2**8, 2**16, 2**31, 2**32, 2**63, 2**64 - 8):
+        yield block(b"A", 0, far)
+        yield block(b"A", 0, far + 5)
+        yield block(b"A", far, 5)
+        yield block(b"A", far + 3, 5)
+        yield block(b"A", far + 3, far + 5)
+    for far in (2**63 - 1, 2**64 - 1):
+        yield block(b"A", 0, far)
+        yield block(b"A", far, far)
+        yield block(b"A", far, 1)
+        yield block(b"", 0, far)
+        yield block(b"", far, 0)
+        yield block(b"", far, far)
+
+
+# By chance.
+
+
+class Dice:
+    """Numbers that look random and are the same with every Python."""
+
+    def __init__(self, seed):
+        self.state = seed
+
+    def below(self, bound):
+        self.state = (self.state * 6364136223846793005 + 1442695040888963407) % 2**64
+        return (self.state >> 24) % bound
+
+    def between(self, least, most):
+        return least + self.below(most - least + 1)
+
+    def pick(self, choices):
+        return choices[self.below(len(choices))]
+
+    def some(self, choices):
+        """A part of the choices that is not empty."""
+        part = [choice for choice in choices if self.below(2)]
+        return part or [self.pick(choices)]
+
+
+def random_text(dice, codes, length):
+    return bytes(dice.pick(codes) for _ in range(length))
+
+
+def random_filling(dice, shape):
+    return b"".join(random_text(dice, base, dice.between(lower, upper)) for base, lower, upper in shape)
+
+
+# Mostly codes whose numbers are short to write.
+ALPHABETS = (
+    (0, 1), (0, 1, 2), (64, 65), (64, 65, 66), (0, 1, 64, 65), b"ABCD", b"Nm", (62, 63, 64, 65), (0, 63, 64, 127),
+)
+
+
+def small_shape(dice):
+    codes = dice.pick(ALPHABETS)
+    words = []
+    for _ in range(dice.between(1, 6)):
+        upper = dice.pick((0, 1, 1, 1, 2, 2, 3))
+        words += block(dice.some(codes) if upper else (), dice.between(0, upper), upper)
+    return codes, words
+
+
+def large_shape(dice):
+    codes = dice.pick((b"AB", b"ABC", b"ABCDEFGH", (0, 1, 2, 64, 65, 66), range(60, 70), range(128)))
+    count = dice.pick((3, 8, 16, 31, 32))
+    room = dice.pick((100, 200, 250))
+    uppers = [0] * count
+    for _ in range(room):
+        uppers[dice.below(count)] += 1
+    words = []
+    for upper in uppers:
+        lower = dice.pick((0, 0, upper, dice.between(0, upper)))
+        words += block(dice.some(codes) if upper else (), lower, upper)
+    return codes, words
+
+
+def carved(dice, codes, text, blocks):
+    """A shape of so many blocks that the text fits: it is cut at random, and each block made wider than its part."""
+    cuts = sorted(dice.between(0, len(text)) for _ in range(blocks - 1))
+    parts = [text[start:end] for start, end in zip([0, *cuts], [*cuts, len(text)])]
+    room = MOST_CHARACTERS - len(text)
+    words = []
+    for part in parts:
+        more = min(dice.pick((0, 0, 1, 2)), room)
+        room -= more
+        upper = len(part) + more
+        base = {*part, *(dice.some(codes) if dice.below(2) and upper else ())}
+        if upper and not base:
+            base = {dice.pick(codes)}
+        words += block(sorted(base), max(0, len(part) - dice.pick((0, 0, 1, 3))), upper)
+    return words
+
+
+def small_pair(dice, most_fillings):
+    """Two shapes over one alphabet with few fillings, in every second pair with a common text."""
+    while True:
+        codes = dice.pick(((0, 1), (0, 1, 2), (0, 1, 2), (64, 65), (0, 64), (0, 1, 63, 64, 127)))
+        words = small_blocks(dice, codes)
+        kind = dice.below(8)
+        if kind < 4:
+            other = carved(dice, codes, random_filling(dice, shape_of(words)), dice.between(1, 4))
+        elif kind == 4:
+            other = words
+        else:
+            other = small_blocks(dice, codes)
+        pair = (words, other) if dice.below(2) else (other, words)
+        if all(fillings(shape_of(one)) <= most_fillings for one in pair):
+            return pair
+
+
+def small_blocks(dice, codes):
+    words = []
+    for _ in range(dice.between(1, 4)):
+        upper = dice.pick((0, 1, 1, 1, 2, 2, 3))
+        words += block(dice.some(codes) if upper else (), dice.between(0, upper), upper)
+    return words
+
+
+def large_pair(dice):
+    """Two shapes with many characters; mostly they have a common text."""
+    codes, words = large_shape(dice)
+    text = random_filling(dice, shape_of(words))
+    kind = dice.below(6)
+    if kind == 0:
+        other = large_shape(dice)[1]
+    elif kind == 1:
+        other = words
+    else:
+        other = carved(dice, codes, text, dice.pick((1, 2, 8, 31, 32)))
+    return (words, other) if dice.below(2) else (other, words)
+
+
+def edge_pairs():
+    """Pairs at the limits, and with blocks that hold nothing."""
+    empty = block((), 0, 0)
+    one = written("A0..250")
+    whole = block(range(128), 0, 250)
+    sevens = block(b"A", 0, 7) * 32
+    letters = [word for number in range(32) for word in block([65 + number % 26], 0, 7)]
+    fixed = [word for number in range(32) for word in block([65 + number % 2], 7, 7)]
+    by_turns = [word for number in range(32) for word in (block(b"A", 0, 8) if number % 2 else block(b"A", 7, 7))]
+    shapes = [empty, empty * 2, empty * 32, one, whole, sevens, letters, fixed, by_turns]
+    shapes += [many_blocks(32, 250), written("A250..250"), written("A0..1"), empty + written("A1..2") + empty]
+    for first in shapes:
+        for second in shapes:
+            yield first, second
+    # The least and greatest codes of both numbers of a base.
+    codes = [block([code], 1, 1) for code in (0, 63, 64, 127)]
+    codes += [block((0, 63, 64, 127), 0, 2), block((0, 127), 1, 2), block((63, 64), 1, 2), block(range(128), 2, 2)]
+    for first in codes:
+        for second in codes:
+            yield first, second
+            yield first + second, second + first
+
+
+def refused_pairs():
+    """Pairs of which one shape or both are refused, for every reason, and one that is not."""
+    good = block(b"AB", 0, 3)
+    bad = block(b"A", 2, 1)
+    heavy = block(b"A", 0, 200)
+    shapes = [[], [1], good[:3], good + [7], good * 33, good * 32 + [0]]
+    shapes += [bad, good + bad, good + bad + bad, bad + heavy * 2, heavy * 2 + bad, bad + good * 32, bad + [0]]
+    shapes += [heavy * 2, block(b"A", 0, 251), many_blocks(32, 251), many_blocks(2, 251)]
+    for first in shapes:
+        yield first, good
+        yield good, first
+        yield first, first
+        for second in ([], bad, heavy * 2):
+            yield first, second
+    yield good, good
+    for unsound in unsound_blocks():
+        yield unsound, good
+        yield good, good + unsound
+    for place in (1, 2, 16, 31, 32):
+        shape = good * (place - 1) + bad + good * (MOST_BLOCKS - place)
+        yield shape, good
+        yield good, shape

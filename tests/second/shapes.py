@@ -1,0 +1,88 @@
+"""What document 01 says of shapes, fillings and refusals."""
+
+from functools import lru_cache
+from itertools import product
+from typing import NamedTuple
+
+MOST_BLOCKS = 32
+MOST_CHARACTERS = 250
+WORK_WANTED = 63_001
+
+# Shapes with at most so many fillings are settled by looking at every one of them.
+FEW_FILLINGS = 5000
+
+
+class Block(NamedTuple):
+    base: tuple[int, ...]
+    lower: int
+    upper: int
+
+
+class Refused(Exception):
+    """A refusal: its number, text and place."""
+
+    def __init__(self, number, text, place):
+        super().__init__(number, text, place)
+        self.line = f"refused {number} {text} {place}"
+
+
+def base_of(low, high):
+    """The characters of a base in rising order: 0 to 63 in the first number, the rest in the second."""
+    return tuple(code for code in range(128) if (low, high)[code // 64] >> code % 64 & 1)
+
+
+def sound(block):
+    if not block.lower <= block.upper <= MOST_CHARACTERS:
+        return False
+    return (len(block.base) == 0) == (block.upper == 0)
+
+
+def shape_of(words, number=1):
+    """The blocks of the shape lent as `words`, the shape's number being `number`."""
+    blocks, rest = divmod(len(words), 4)
+    if rest != 0 or blocks == 0 or blocks > MOST_BLOCKS:
+        raise Refused(1, number, 0)
+    shape = []
+    for at in range(0, len(words), 4):
+        low, high, lower, upper = words[at : at + 4]
+        shape.append(Block(base_of(low, high), lower, upper))
+        if not sound(shape[-1]):
+            raise Refused(2, number, len(shape))
+    if sum(block.upper for block in shape) > MOST_CHARACTERS:
+        raise Refused(3, number, 0)
+    return tuple(shape)
+
+
+# All fillings, one by one: the meaning itself, for small shapes.
+
+
+def fillings(shape):
+    """How many fillings the shape has."""
+    count = 1
+    for base, lower, upper in shape:
+        count *= sum(len(base) ** length for length in range(lower, upper + 1))
+    return count
+
+
+def all_runs(block):
+    base, lower, upper = block
+    return [bytes(run) for length in range(lower, upper + 1) for run in product(base, repeat=length)]
+
+
+@lru_cache(maxsize=None)
+def all_texts(shape):
+    texts = {b""}
+    for block in shape:
+        runs = all_runs(block)
+        texts = {text + run for text in texts for run in runs}
+    return texts
+
+
+def agree(what, shape, one, other):
+    if one != other:
+        raise AssertionError(f"two methods differ on {what}: {shape}: {one} and {other}")
+
+
+def pair_of(first, second):
+    """The shapes of a pair, refused in document 01's order: the first shape's number is 1, the second's 2."""
+    return shape_of(first, 1), shape_of(second, 2)
