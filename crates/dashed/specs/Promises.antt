@@ -4,12 +4,14 @@ use mathlib.Core.List.{List}
 use Prim.Native.Nat.{ℕ}
 use Rattle.answers.specs.declared.Checked.{Checked}
 use Rattle.answers.specs.declared.Fit.{Fit}
+use Rattle.answers.specs.declared.Narrowed.{Narrowed}
 use Rattle.answers.specs.declared.Swept.{Swept}
 use Rattle.answers.specs.declared.Written.{Written}
 use Rattle.extremes.specs.declared.Direction.the-variants.{Least, Greatest}
 use Rattle.extremes.specs.Extreme.{ExtremePromise}
 use Rattle.fitting.specs.Fit.{FitPromise}
 use Rattle.pair_calls.specs.Sweep.{SweepPromise}
+use Rattle.pairs.specs.Narrow.{NarrowPromise}
 use Rattle.shapes.specs.Lent.{ShapeChecked}
 use Rattle.texts.specs.Order.{AtMost, Before}
 
@@ -36,3 +38,7 @@ GreatestText xs out out′ r = ExtremePromise Greatest xs out out′ r
 -- the quick sweep of xs in ys: the answer, the looks and the output are those of document 01's steps
 abbrev pub Sweep : List ℕ → List ℕ → List ℕ → List ℕ → Swept → Type 0
 Sweep xs ys out out′ r = SweepPromise xs ys out out′ r
+
+-- narrowing under equality: lent xs and ys, work, and two outputs ox and oy; with ′ they are as handed back
+abbrev pub NarrowEqual : List ℕ → List ℕ → List ℕ → List ℕ → List ℕ → List ℕ → List ℕ → List ℕ → Narrowed → Type 0
+NarrowEqual xs ys work ox oy work′ ox′ oy′ r = NarrowPromise (λ t u. t ≡ u) xs ys work ox oy work′ ox′ oy′ r

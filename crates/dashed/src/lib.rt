@@ -2,9 +2,10 @@
 // and a refusal leaves all lent memory as on entry.
 use answers::Checked;
 use answers::Fit;
+use answers::Narrowed;
 use answers::Swept;
 use answers::Written;
-ghost use Rattle.dashed.specs.Promises.{CheckShape, FitsShape, Earlier, LeastText, GreatestText, Sweep};
+ghost use Rattle.dashed.specs.Promises.{CheckShape, FitsShape, Earlier, LeastText, GreatestText, Sweep, NarrowEqual};
 
 // Checks a shape, lent as 64-bit numbers, four to a block.
 pub fn check_shape(shape: &[u64]) -> Checked
@@ -47,4 +48,19 @@ pub fn sweep(x: &[u64], y: &[u64], out: &mut [u64]) -> Swept
     ensures { λ r. ⌜ Sweep (now (x .entry)) (now (y .entry)) (now (out .entry)) (now (out .exit)) r ⌝ }
 {
     pair_calls::sweep(x, y, out)
+}
+
+// Exact narrowing under equality: none exactly if no filling of x and filling of y have one text; otherwise each block of the outputs keeps exactly the
+// characters, and the least and greatest count, that some such pair gives it. It takes a work buffer of at least 63,001 bytes.
+pub fn narrow_equal(
+    x: &[u64],
+    y: &[u64],
+    work: &mut [u8],
+    out_x: &mut [u64],
+    out_y: &mut [u64],
+) -> Narrowed
+    ensures { λ r. ⌜ NarrowEqual (now (x .entry)) (now (y .entry)) (now (work .entry)) (now («out_x» .entry)) (now («out_y» .entry))
+        (now (work .exit)) (now («out_x» .exit)) (now («out_y» .exit)) r ⌝ }
+{
+    pair_calls::narrow_equal(x, y, work, out_x, out_y)
 }

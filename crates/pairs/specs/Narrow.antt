@@ -1,5 +1,6 @@
 -- Document 01, "Narrowing": what narrowing under the relation R promises. Lent: two shapes xs and ys, work, two outputs ox and oy; with ′ they are as handed back.
 use mathlib.Core.Path.{_≡_}
+use mathlib.Core.Bool.{Bool, true, false}
 use mathlib.Core.List.{List, _++_}
 use Prim.Native.Nat.{ℕ}
 use lib.ListN.{length, drop, replicate}
@@ -12,8 +13,8 @@ use Rattle.hulls.specs.Hull.{Pairs, None, Hull}
 use Rattle.pairs.specs.Pair.{PairAccepted, Room, NarrowRefused}
 
 -- After an accepted call the first 63,001 bytes of work are 0 and the rest untouched.
-abbrev pub cleared : List ℕ → List ℕ
-cleared work = replicate 63001 0 ++ drop 63001 work
+unfoldable pub cleared : ℕ → List ℕ → List ℕ
+cleared n work = replicate n 0 ++ drop n work
 
 -- The new shapes are the hull of the pairs of fillings that satisfy R; they stand at the start of the outputs, the entries past them stay.
 pub record Narrows (R : List ℕ → List ℕ → Type 0) (xs ys ox oy ox′ oy′ : List ℕ) : Type 0 where
@@ -30,10 +31,16 @@ pub record NoPair (R : List ℕ → List ℕ → Type 0) (xs ys ox oy ox′ oy�
   pub first-output : ox′ ≡ ox
   pub second-output : oy′ ≡ oy
 
+-- What the work of narrowing two accepted shapes answers, true exactly if there is a pair.
+pub record NarrowAnswer (R : List ℕ → List ℕ → Type 0) (xs ys work ox oy work′ ox′ oy′ : List ℕ) (r : Bool) : Type 0 where
+  pub both : r ≡ true → Narrows R xs ys ox oy ox′ oy′
+  pub neither : r ≡ false → NoPair R xs ys ox oy ox′ oy′
+  pub work-cleared : work′ ≡ cleared 63001 work
+
 pub record Accepts (xs ys work ox oy work′ : List ℕ) : Type 0 where
   pub shapes : PairAccepted xs ys
   pub room : Room xs ys (length work) (length ox) (length oy)
-  pub work-cleared : work′ ≡ cleared work
+  pub work-cleared : work′ ≡ cleared 63001 work
 
 pub record Refuses (xs ys work ox oy work′ ox′ oy′ : List ℕ) : Type 0 where
   pub work-kept : work′ ≡ work

@@ -1,0 +1,4 @@
+-- The laws of narrowing under equality.
+pub mod Table
+pub mod Sides
+pub mod Equal

@@ -1,0 +1,2 @@
+-- What the inner functions of narrowing under equality work with.
+pub mod Inner

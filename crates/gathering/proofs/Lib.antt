@@ -1,0 +1,2 @@
+-- The laws of what the table tells.
+pub mod Side

@@ -1,0 +1,170 @@
+-- What the table tells, gathered one position at a time. Assumes nothing.
+use mathlib.Core.Path.{_≡_, refl, sym, ap, _∙_, subst}
+use mathlib.Core.Bool.{Bool, true, false, true≢false}
+use mathlib.Core.List.{List, [], _∷_}
+use mathlib.Core.Logic.{_⊎_, inl, inr, ⊎-elim}
+use Prim.Native.Nat.{ℕ, zero, suc, _+_, _-_, _≤_, _<_}
+use native.Mathlib.Omega.{arith}
+use lib.Bits.{bitAnd, bitOr}
+use Rattle.bases.specs.Base.{Holds, Meets, Empty, baseOf}
+use Rattle.bases.specs.Tells.{Tells}
+use Rattle.bases.proofs.Laws.{none-in-zero}
+use Rattle.bases.proofs.Plain.{lt-or-le, eq-or-ne}
+use Rattle.bases.proofs.Sets.{either, in-first, in-second, both, shared}
+use Rattle.shapes.specs.Shape.{Block}
+use Rattle.gathering.specs.Side.{Joint, Shown, Others, Within, Added, EmptyRun, LastAt, Length, empty, filled, Shortest, Longest, Gathered}
+
+pub nothing : (base c : ℕ) → base ≡ 0 → Holds base c → ⊥
+unfolding Empty
+nothing base c e h = none-in-zero c (subst (λ (x : ℕ). Holds x c) e h)
+
+pub zero-base : baseOf (0 ∷ (0 ∷ [])) ≡ 0
+unfolding baseOf
+zero-base = refl
+
+module _ {T : ℕ → ℕ → ℕ} {Y : ℕ → Block} where
+  -- ---- characters
+
+  shown-more : {n i c : ℕ} → Shown T Y n i c → Shown T Y (n + 1) i c
+  shown-more s = let h = s .bound in record { other = s .other; bound = omega arith; joint = s .joint; held = s .held }
+
+  pub others-none : (i base : ℕ) → base ≡ 0 → Others T Y 0 i base
+  others-none i base e = record { so = λ c h. absurd (nothing base c e h); mark = λ c s. let h = s .bound in absurd (omega arith) }
+
+  -- the shown characters of one more position
+  shown-cases : {P : Type 0} {n i c : ℕ} → Shown T Y (n + 1) i c → (Shown T Y n i c → P) → (Joint T i n (i + 1) (n + 1) → Holds (Y n .base) c → P) → P
+  shown-cases {n = n} {i = i} {c = c} s f g = ⊎-elim
+      (λ h. f (record { other = s .other; bound = h; joint = s .joint; held = s .held }))
+      (λ h.
+      let e : s .other ≡ n = let b = s .bound in omega arith in
+      g (subst (λ (x : ℕ). Joint T i x (i + 1) (x + 1)) e (s .joint)) (subst (λ (x : ℕ). Holds (Y x .base) c) e (s .held)))
+      (lt-or-le (s .other) n)
+
+  pub others-more : {n i a r : ℕ} {b : Block} {on : Bool} → b ≡ Y n → Tells on (Joint T i n (i + 1) (n + 1)) → Added on a (b .base) r → Others T Y n i a → Others T Y (n + 1) i r
+  others-more {n} {i} {a} {r} {b} {on = true} e t d o =
+      let joint = t .so refl in
+      let sum = d .taken refl in
+      let base : b .base ≡ Y n .base = ap (λ (x : Block). x .base) e in
+      record {
+        so = λ c h. ⊎-elim
+            (λ u. shown-more (o .so c u))
+            (λ u. record { other = n; bound = omega arith; joint = joint; held = subst (λ (x : ℕ). Holds x c) base u })
+            (either a (b .base) c (subst (λ (x : ℕ). Holds x c) sum h));
+        mark = λ c s. subst (λ (x : ℕ). Holds x c) (sym sum) (shown-cases s
+            (λ u. in-first a (b .base) c (o .mark c u))
+            (λ u v. in-second a (b .base) c (subst (λ (x : ℕ). Holds x c) (sym base) v)));
+      }
+  others-more {n} {i} {a} {r} {b} {on = false} e t d o =
+      let same = d .left refl in
+      record {
+        so = λ c h. shown-more (o .so c (subst (λ (x : ℕ). Holds x c) same h));
+        mark = λ c s. subst (λ (x : ℕ). Holds x c) (sym same) (shown-cases s (λ u. o .mark c u) (λ u v. absurd (t .not-so refl u)));
+      }
+
+  module _ {m p : ℕ} where
+    pub within-none : (base : ℕ) → base ≡ 0 → Within T Y m p 0 base
+    within-none base e = record { so = λ c h. absurd (nothing base c e h); mark = λ c i h. absurd (omega arith) }
+
+    pub within-more : {k a o r : ℕ} → r ≡ bitOr a o → Within T Y m p k a → Others T Y m (p + k) o → Within T Y m p (k + 1) r
+    within-more {k} {a} {o} {r} e w s = record {
+      so = λ c h. ⊎-elim
+          (λ u. let x = w .so c u in let l = x .1 in (x .0, omega arith, x .2))
+          (λ u. (k, omega arith, s .so c u))
+          (either a o c (subst (λ (x : ℕ). Holds x c) e h));
+      mark = λ c i h u. subst (λ (x : ℕ). Holds x c) (sym e) (⊎-elim
+          (λ g. in-first a o c (w .mark c i g u))
+          (λ g. in-second a o c (s .mark c (subst (λ (x : ℕ). Shown T Y m (p + x) c) (let z : i ≡ k = omega arith in z) u)))
+          (lt-or-le i k));
+    }
+
+    pub within-to : {k l base : ℕ} → k ≡ l → Within T Y m p k base → Within T Y m p l base
+    within-to {base = base} e w = subst (λ (x : ℕ). Within T Y m p x base) e w
+
+    -- ---- lengths
+
+    pub short-length : {b : Block} {n : ℕ} → Length T Y m p b n → n ≤ b .upper
+    short-length (empty e l r) = omega arith
+    short-length (filled k e h l r) = omega arith
+
+    pub length-zero : {b : Block} {n : ℕ} → n ≡ 0 → Length T Y m p b n → (b .lower ≡ 0) × EmptyRun T m p (p + b .upper)
+    length-zero z (empty e l r) = (l, r)
+    length-zero z (filled k e h l r) = absurd (omega arith)
+
+    pub length-filled : {b : Block} {n : ℕ} → (n ≡ 0 → ⊥) → Length T Y m p b n → (b .lower ≤ n) × LastAt T Y m (p + (n - 1)) (p + b .upper) (b .base)
+    length-filled z (empty e l r) = absurd (z e)
+    length-filled {b} {n} z (filled k e h l r) = (l, subst (λ (x : ℕ). LastAt T Y m (p + x) (p + b .upper) (b .base)) (let d : k ≡ n - 1 = omega arith in d) r)
+
+    pub length-of-filled : {b : Block} {n : ℕ} → (n ≡ 0 → ⊥) → n ≤ b .upper → b .lower ≤ n → LastAt T Y m (p + (n - 1)) (p + b .upper) (b .base) → Length T Y m p b n
+    length-of-filled {n = n} z h l r = filled (n - 1) (omega arith) (omega arith) l r
+
+    -- ---- the whole block
+
+    pub gathered : {b h : Block} {o : ℕ} → h .base ≡ bitAnd (b .base) o → Within T Y m p (b .upper) o → Shortest T Y m p b (h .lower) → Longest T Y m p b (h .upper) → Gathered T Y m p b h
+    gathered {b} {h} {o} e w s l = record {
+      held = λ c g. let x = shared (b .base) o c (subst (λ (x : ℕ). Holds x c) e g) in (x .0, w .so c (x .1));
+      all-held = λ c i g k u. subst (λ (x : ℕ). Holds x c) (sym e) (both (b .base) o c g (w .mark c i k u));
+      shortest = s;
+      longest = l;
+    }
+
+-- ---- a search
+
+-- what holds of no number below n, and not of n, holds of none below n + 1
+pub none-more : {P : ℕ → Type 0} {n : ℕ} → ((k : ℕ) → k < n → P k → ⊥) → (P n → ⊥) → (k : ℕ) → k < n + 1 → P k → ⊥
+none-more {P} {n} f g k h p = ⊎-elim (λ l. f k l p) (λ l. g (subst P (let e : k ≡ n = omega arith in e) p)) (lt-or-le k n)
+
+pub tells-map : {r : Bool} {P Q : Type 0} → (P → Q) → (Q → P) → Tells r P → Tells r Q
+tells-map f g t = record { so = λ e. f (t .so e); not-so = λ e q. t .not-so e (g q) }
+
+pub tells-true : {P : Type 0} → P → Tells true P
+tells-true p = record { so = λ e. p; not-so = λ e. absurd (true≢false e) }
+
+-- a bool is not both
+pub not-both : {r : Bool} {A : Type 0} → r ≡ true → r ≡ false → A
+not-both p q = absurd (true≢false (sym p ∙ q))
+
+pub meets-base : {base : ℕ} {a b : Block} → a ≡ b → Meets base (a .base) → Meets base (b .base)
+meets-base {base} e m = subst (λ (x : Block). Meets base (x .base)) e m
+
+pub others-to : {T : ℕ → ℕ → ℕ} {Y : ℕ → Block} {n m i base : ℕ} → n ≡ m → Others T Y n i base → Others T Y m i base
+others-to {T} {Y} {i = i} {base = base} e o = subst (λ (x : ℕ). Others T Y x i base) e o
+
+-- no run is shorter than n, or longer
+pub record NoneBelow (T : ℕ → ℕ → ℕ) (Y : ℕ → Block) (m p : ℕ) (b : Block) (n : ℕ) : Type 0 where
+  pub none : (k : ℕ) → k < n → Length T Y m p b k → ⊥
+
+pub record NoneAbove (T : ℕ → ℕ → ℕ) (Y : ℕ → Block) (m p : ℕ) (b : Block) (n : ℕ) : Type 0 where
+  pub none : (k : ℕ) → n < k → Length T Y m p b k → ⊥
+
+module _ {T : ℕ → ℕ → ℕ} {Y : ℕ → Block} {m p : ℕ} {b : Block} where
+  pub none-below : NoneBelow T Y m p b 0
+  none-below = record { none = λ k h. absurd (omega arith) }
+
+  pub none-below-more : {n : ℕ} → NoneBelow T Y m p b n → (Length T Y m p b n → ⊥) → NoneBelow T Y m p b (n + 1)
+  none-below-more f g = record { none = none-more {P = Length T Y m p b} (f .none) g }
+
+  pub shortest-here : {n : ℕ} → NoneBelow T Y m p b n → Length T Y m p b n → Shortest T Y m p b n
+  shortest-here {n} f l = record { is = λ k h. l; least = λ k h. ⊎-elim (λ g. absurd (f .none k g h)) (λ g. g) (lt-or-le k n) }
+
+  pub shortest-last : {n : ℕ} → n ≡ b .upper → NoneBelow T Y m p b n → Shortest T Y m p b (b .upper)
+  shortest-last {n} e f = record { is = λ k h. subst (Length T Y m p b) (same k h) h; least = λ k h. let s = same k h in omega arith }
+    where
+      same : (k : ℕ) → Length T Y m p b k → k ≡ b .upper
+      same k h = ⊎-elim (λ g. absurd (f .none k g h)) (λ g. let s = short-length h in omega arith) (lt-or-le k n)
+
+  pub none-above : {n : ℕ} → n ≡ b .upper → NoneAbove T Y m p b n
+  none-above e = record { none = λ k h l. let s = short-length l in omega arith }
+
+  pub none-above-more : {n : ℕ} → 0 < n → NoneAbove T Y m p b n → (Length T Y m p b n → ⊥) → NoneAbove T Y m p b (n - 1)
+  none-above-more {n} z f g = record {
+    none = λ k h l. ⊎-elim (λ d. f .none k d l) (λ d. g (subst (Length T Y m p b) (let e : k ≡ n = omega arith in e) l)) (lt-or-le n k);
+  }
+
+  pub longest-here : {n : ℕ} → NoneAbove T Y m p b n → Length T Y m p b n → Longest T Y m p b n
+  longest-here {n} f l = record { is = λ k h. l; greatest = λ k h. ⊎-elim (λ g. absurd (f .none k g h)) (λ g. g) (lt-or-le n k) }
+
+  pub longest-last : {n : ℕ} → n ≡ 0 → NoneAbove T Y m p b n → Longest T Y m p b 0
+  longest-last {n} e f = record { is = λ k h. subst (Length T Y m p b) (same k h) h; greatest = λ k h. let s = same k h in omega arith }
+    where
+      same : (k : ℕ) → Length T Y m p b k → k ≡ 0
+      same k h = ⊎-elim (λ g. absurd (f .none k g h)) (λ g. omega arith) (lt-or-le n k)

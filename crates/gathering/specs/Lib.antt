@@ -1,0 +1,2 @@
+-- What the table of two shapes tells of one side's blocks.
+pub mod Side

@@ -1,0 +1,2 @@
+-- The laws of slots as numbers.
+pub mod Slots

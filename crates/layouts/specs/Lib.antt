@@ -1,0 +1,2 @@
+-- The slots of a shape as numbers, four to a slot like a block.
+pub mod Slots

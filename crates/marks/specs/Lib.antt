@@ -1,0 +1,2 @@
+-- The marks of the table over two shapes.
+pub mod Marks

@@ -1,0 +1,3 @@
+-- The laws of the table.
+pub mod Cells
+pub mod Finish

@@ -1,0 +1,2 @@
+-- A table over the positions of two shapes.
+pub mod Table
