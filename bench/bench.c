@@ -9,6 +9,7 @@
 uint64_t wedgeotter_fits(const uint64_t *shape, size_t n, const uint8_t *text, size_t k);
 uint64_t wedgeotter_least(const uint64_t *shape, size_t n, uint8_t *out, size_t k);
 uint64_t wedgeotter_sweep(const uint64_t *x, size_t n, const uint64_t *y, size_t m, uint64_t *out, size_t k);
+uint64_t wedgeotter_equal(const uint64_t *x, size_t n, const uint64_t *y, size_t m, uint8_t *work, size_t w, uint64_t *ox, size_t a, uint64_t *oy, size_t b);
 
 static double now(void) {
     struct timespec t;
@@ -150,6 +151,81 @@ static uint64_t plain_sweep(const uint64_t *x, size_t nx, const uint64_t *y, siz
     return looks;
 }
 
+// Narrowing under equality with a byte table over pairs of positions, 251 to a row, as the proved code has it.
+struct slot {
+    uint64_t low, high, lower, upper;
+};
+
+static size_t lay(const uint64_t *s, size_t n, struct slot *to) {
+    size_t p = 0;
+    for (size_t i = 0; i < n; i += 4)
+        for (uint64_t k = 0; k < s[i + 3]; k++) to[p++] = (struct slot){s[i], s[i + 1], s[i + 2] > k ? s[i + 2] - k : 0, s[i + 3] - k};
+    to[p] = (struct slot){0, 0, 1, 0};
+    return p;
+}
+
+static int shared(const struct slot *a, const struct slot *b) { return (a->low & b->low) || (a->high & b->high); }
+
+// Cell (i, j) of the own shape and the other: the table read as it is, or turned.
+static uint8_t cell(const uint8_t *t, int turned, size_t i, size_t j) { return turned ? t[j * 251 + i] : t[i * 251 + j]; }
+
+static void side(const uint64_t *x, size_t nx, const struct slot *ys, size_t m, const uint8_t *t, int turned, uint64_t *out) {
+    size_t p = 0;
+    for (size_t i = 0; i < nx; i += 4) {
+        uint64_t low = 0, high = 0, least = 251, most = 0, u = x[i + 3];
+        struct slot own = {x[i], x[i + 1], 0, 0};
+        if (x[i + 2] == 0)
+            for (size_t j = 0; j <= m; j++)
+                if ((cell(t, turned, p, j) & 2) && (cell(t, turned, p + u, j) & 1)) least = 0;
+        for (uint64_t k = 0; k < u; k++)
+            for (size_t j = 0; j < m; j++) {
+                if (!(cell(t, turned, p + k, j) & 2) || !shared(&own, &ys[j])) continue;
+                if (cell(t, turned, p + k + 1, j + 1) & 1) {
+                    low |= own.low & ys[j].low;
+                    high |= own.high & ys[j].high;
+                }
+                if (k + 1 >= x[i + 2] && (cell(t, turned, p + u, j + 1) & 1)) {
+                    if (k + 1 < least) least = k + 1;
+                    if (k + 1 > most) most = k + 1;
+                }
+            }
+        out[i] = low;
+        out[i + 1] = high;
+        out[i + 2] = least;
+        out[i + 3] = most;
+        p += u;
+    }
+}
+
+static uint64_t plain_equal(const uint64_t *x, size_t nx, const uint64_t *y, size_t ny, uint8_t *t, size_t w, uint64_t *ox, size_t a, uint64_t *oy, size_t b) {
+    if (!plain_check(x, nx) || !plain_check(y, ny) || w < 63001 || a < nx || b < ny) return 1000;
+    static struct slot xs[251], ys[251];
+    size_t n = lay(x, nx, xs), m = lay(y, ny, ys);
+    for (size_t i = n + 1; i-- > 0;)
+        for (size_t j = m + 1; j-- > 0;) {
+            int v = i == n && j == m;
+            if (!v && xs[i].lower == 0) v = t[(i + xs[i].upper) * 251 + j] & 1;
+            if (!v && ys[j].lower == 0) v = t[i * 251 + j + ys[j].upper] & 1;
+            if (!v && i < n && j < m && shared(&xs[i], &ys[j])) v = t[(i + 1) * 251 + j + 1] & 1;
+            t[i * 251 + j] = v;
+        }
+    uint64_t some = t[0];
+    if (some) {
+        t[0] |= 2;
+        for (size_t i = 0; i <= n; i++)
+            for (size_t j = 0; j <= m; j++) {
+                if (!(t[i * 251 + j] & 2)) continue;
+                if (xs[i].lower == 0) t[(i + xs[i].upper) * 251 + j] |= 2;
+                if (ys[j].lower == 0) t[i * 251 + j + ys[j].upper] |= 2;
+                if (i < n && j < m && shared(&xs[i], &ys[j])) t[(i + 1) * 251 + j + 1] |= 2;
+            }
+        side(x, nx, ys, m, t, 0, ox);
+        side(y, ny, xs, n, t, 1, oy);
+    }
+    memset(t, 0, 63001);
+    return some;
+}
+
 static uint64_t seed = 88172645463325252ull;
 static uint64_t rnd(uint64_t n) {
     seed ^= seed << 13;
@@ -245,11 +321,43 @@ static void sweeps(const char *name, size_t blocks, uint64_t most) {
     report(line, best[0] / SHAPES, best[1] / SHAPES);
 }
 
+// Narrowing of each shape against the next one, under equality.
+static void equals(const char *name, size_t blocks, uint64_t most) {
+    static uint8_t work[63001];
+    uint64_t a[128], b[128], c[128], d[128];
+    volatile uint64_t sink = 0;
+    for (int i = 0; i < SHAPES; i++) length[i] = make(shape[i], blocks, most);
+    for (int i = 0; i < SHAPES; i++) {
+        int j = (i + 1) % SHAPES;
+        memset(a, 0, sizeof a), memset(b, 0, sizeof b), memset(c, 0, sizeof c), memset(d, 0, sizeof d);
+        uint64_t ours = wedgeotter_equal(shape[i], length[i], shape[j], length[j], work, sizeof work, a, 128, b, 128);
+        if (ours != plain_equal(shape[i], length[i], shape[j], length[j], work, sizeof work, c, 128, d, 128) || memcmp(a, c, sizeof a) || memcmp(b, d, sizeof b)) {
+            printf("the two narrowings differ\n");
+            exit(1);
+        }
+    }
+    double best[2] = {1e18, 1e18};
+    for (int turn = 0; turn < 5; turn++) {
+        double t0 = now();
+        for (int i = 0; i < SHAPES; i++) sink += wedgeotter_equal(shape[i], length[i], shape[(i + 1) % SHAPES], length[(i + 1) % SHAPES], work, sizeof work, a, 128, b, 128);
+        double t1 = now();
+        for (int i = 0; i < SHAPES; i++) sink += plain_equal(shape[i], length[i], shape[(i + 1) % SHAPES], length[(i + 1) % SHAPES], work, sizeof work, a, 128, b, 128);
+        double t2 = now(), t[2] = {t1 - t0, t2 - t1};
+        for (int k = 0; k < 2; k++)
+            if (t[k] < best[k]) best[k] = t[k];
+    }
+    char line[80];
+    snprintf(line, sizeof line, "equal, %s", name);
+    report(line, best[0] / SHAPES, best[1] / SHAPES);
+}
+
 int main(void) {
     printf("%-34s %12s %12s %6s\n", "per call, best of 15", "ours", "plain C", "ratio");
     bounds("8 blocks, 40 characters", 8, 40);
     bounds("32 blocks, 250 characters", 32, 250);
     sweeps("8 blocks", 8, 40);
     sweeps("32 blocks", 32, 250);
+    equals("8 blocks, 40 characters", 8, 40);
+    equals("32 blocks, 250 characters", 32, 250);
     return 0;
 }

@@ -1,5 +1,6 @@
 // The calls as C functions on numbers, for the benchmark alone: an answer becomes a number, a refusal 1000 and more.
 use answers::Fit;
+use answers::Narrowed;
 use answers::Swept;
 use answers::Written;
 
@@ -27,5 +28,15 @@ pub extern "C" fn wedgeotter_sweep(x: &[u64], y: &[u64], out: &mut [u64]) -> u64
         Swept::Places(k) => k,
         Swept::Cannot(_) => 100000,
         Swept::Refused(_) => 1000,
+    }
+}
+
+// 1 for narrowed shapes, 0 for none.
+#[no_mangle]
+pub extern "C" fn wedgeotter_equal(x: &[u64], y: &[u64], work: &mut [u8], out_x: &mut [u64], out_y: &mut [u64]) -> u64 {
+    match dashed::narrow_equal(x, y, work, out_x, out_y) {
+        Narrowed::Narrow => 1,
+        Narrowed::None => 0,
+        Narrowed::Refused(_) => 1000,
     }
 }

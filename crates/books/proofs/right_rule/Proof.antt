@@ -1,0 +1,40 @@
+-- `books::right_rule`: the kind, the two texts, and that they are two. Assumes nothing.
+use native.Mathlib.Omega.{arith}
+use borrow.Author.Needs.{needs}
+use borrow.Author.Tests.{not-true, not-false}
+use Rattle.bases.proofs.Laws.{tells-false}
+use Rattle.books.proofs.Tell.{tells-true}
+use Rattle.books.proofs.right_rule.Statement.{statement}
+use Rattle.books.proofs.right_rule.Tie as tie
+
+returns : tie.Need-returns
+returns c = tells-false (λ r. let h = r .known in let z = c .if1 .taken in omega arith)
+
+names-requires : tie.Need-names-requires
+names-requires c κs = search needs
+
+returns-2 : tie.Need-returns-2
+returns-2 c = tells-false (λ r. c .before .names .ensures .not-so (not-true _ (c .if2 .taken)) (r .first))
+
+names-requires-2 : tie.Need-names-requires-2
+names-requires-2 c κs = search needs
+
+returns-3 : tie.Need-returns-3
+returns-3 c = tells-false (λ r. c .before .names2 .ensures .not-so (not-true _ (c .if3 .taken)) (r .second))
+
+returns-4 : tie.Need-returns-4
+returns-4 c = tells-false (λ r. r .two (c .if4 .taken))
+
+returns-5 : tie.Need-returns-5
+returns-5 c =
+    let p = c .before .before in
+    tells-true
+    (record {
+      known = let z = p .before .before .before .before .if1 .left in omega arith;
+      first = p .before .before .before .names .ensures .so (not-false _ (p .before .before .if2 .left));
+      second = p .before .names2 .ensures .so (not-false _ (p .if3 .left));
+      two = c .if4 .left;
+    })
+
+pub right-rule-spec : {M : Type 1} → statement M
+right-rule-spec = tie.close (tie.spec returns names-requires returns-2 names-requires-2 returns-3 returns-4 returns-5)
