@@ -33,7 +33,13 @@ pub extern "C" fn wedgeotter_sweep(x: &[u64], y: &[u64], out: &mut [u64]) -> u64
 
 // 1 for narrowed shapes, 0 for none.
 #[no_mangle]
-pub extern "C" fn wedgeotter_equal(x: &[u64], y: &[u64], work: &mut [u8], out_x: &mut [u64], out_y: &mut [u64]) -> u64 {
+pub extern "C" fn wedgeotter_equal(
+    x: &[u64],
+    y: &[u64],
+    work: &mut [u8],
+    out_x: &mut [u64],
+    out_y: &mut [u64],
+) -> u64 {
     match dashed::narrow_equal(x, y, work, out_x, out_y) {
         Narrowed::Narrow => 1,
         Narrowed::None => 0,
