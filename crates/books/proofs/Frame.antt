@@ -14,7 +14,8 @@ use Rattle.hulls.specs.Hull.{None, Hull, Pairs}
 use Rattle.hulls.specs.Book.{Parts}
 use Rattle.hulls.proofs.Named.{laid, two-texts, two-texts-swapped, no-two-texts, no-two-texts-swapped}
 use Rattle.books.specs.Counts.{sumOf, countOf, firstOf, shapeIn}
-use Rattle.books.specs.Rules.{Triple, relationOf, RightRule, asks}
+use Rattle.texts.specs.Kind.{relationOf}
+use Rattle.books.specs.Rules.{Triple, RightRule, asks}
 use Rattle.books.specs.Code.{replaced}
 use Rattle.books.proofs.Sums.{text-before, text-within}
 use Rattle.books.proofs.Part.{replaced-middle}

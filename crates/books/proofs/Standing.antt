@@ -16,7 +16,8 @@ use Rattle.hulls.specs.Book.{Within, end, next}
 use Rattle.hulls.proofs.Order.{within-total}
 use Rattle.hulls.proofs.Hull.{hull-within, hull-sound}
 use Rattle.books.specs.Counts.{sumOf, RightCount, countOf, firstOf, shapeIn}
-use Rattle.books.specs.Rules.{Triple, relationOf, Names, RightRule, asks}
+use Rattle.texts.specs.Kind.{relationOf}
+use Rattle.books.specs.Rules.{Triple, Names, RightRule, asks}
 use Rattle.books.specs.Refused.{BookAccepted}
 use Rattle.books.specs.Code.{replaced, StandsAt, numbersIn, Standing}
 use Rattle.books.proofs.Sums.{sum-all, sum-small, text-within, texts-sound}

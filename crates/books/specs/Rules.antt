@@ -1,9 +1,9 @@
 -- Document 01, "A book and its run": a rule is (kind, a, b): 0 equal, 1 a at most b, 2 a before b.
 use mathlib.Core.Path.{_≡_}
 use mathlib.Core.List.{List}
-use Prim.Native.Nat.{ℕ, zero, suc, _+_, _*_, _/_, _≤_, _<_}
+use Prim.Native.Nat.{ℕ, _+_, _*_, _/_, _≤_, _<_}
 use lib.ListN.{length, getD}
-use Rattle.texts.specs.Order.{AtMost, Before}
+use Rattle.texts.specs.Kind.{relationOf}
 use Rattle.hulls.specs.Book.{Parts}
 use Rattle.books.specs.Counts.{countOf, firstOf}
 
@@ -11,12 +11,6 @@ pub record Triple : Type 0 where
   pub kind : ℕ
   pub a : ℕ
   pub b : ℕ
-
--- The relation of a kind. (A further kind is refused, so any relation will do for it.)
-unfoldable pub relationOf : ℕ → List ℕ → List ℕ → Type 0
-relationOf zero t u = t ≡ u
-relationOf (suc zero) t u = AtMost t u
-relationOf (suc (suc k)) t u = Before t u
 
 -- Rule j, from 0, of the rules lent, and how many they are.
 abbrev pub ruleAt : List ℕ → ℕ → Triple

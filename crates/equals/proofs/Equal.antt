@@ -1,27 +1,26 @@
 -- Narrowing two lent shapes under equality, from what the table tells. Assumes nothing.
 use mathlib.Core.Path.{_≡_, refl, sym, ap, _∙_, subst}
-use mathlib.Core.Bool.{Bool, true, false, true≢false, false≢true}
-use mathlib.Core.List.{List, [], _∷_, _++_}
-use Prim.Native.Nat.{ℕ, zero, suc, _+_, _-_, _*_, _/_, _^_, _≤_, _<_}
+use mathlib.Core.Bool.{true, false, true≢false, false≢true}
+use mathlib.Core.List.{List}
+use Prim.Native.Nat.{ℕ, _+_, _/_, _^_, _≤_, _<_}
 use native.Mathlib.Omega.{arith}
 use lib.ListN.{length, getD, take}
-use Rattle.shapes.specs.All.{All}
-use Rattle.shapes.specs.Shape.{Block, Sound, total}
-use Rattle.shapes.specs.Lent.{blockAt, shapeOf}
+use Rattle.shapes.specs.Shape.{Block, total}
+use Rattle.shapes.specs.Lent.{blockAt, shapeOf, Accepted}
 use Rattle.shapes.proofs.Lent.{shape-length, shape-at}
-use Rattle.hulls.specs.Hull.{Pairs, None, Hull, blank}
+use Rattle.hulls.specs.Hull.{blank}
 use Rattle.rests.specs.Walk.{slotAt, Path, Bounded, Same}
-use Rattle.rests.specs.Collect.{Ends, Collected}
+use Rattle.rests.specs.Collect.{Collected}
 use Rattle.rests.proofs.Walks.{turn-path}
 use Rattle.rests.proofs.Laid.{bounded}
 use Rattle.rests.proofs.Tight.{place, equal-none, equal-hull, some-first}
-use Rattle.layouts.specs.Slots.{LaidOut}
 use Rattle.layouts.proofs.Slots.{laid-bounded}
 use Rattle.tables.specs.Table.{look, Grid, FinishFrom, Same-rest}
 use Rattle.marks.specs.Marks.{Told}
-use Rattle.gathering.specs.Side.{lookAt, Gathered, Side}
-use Rattle.equals.specs.Inner.{Whole, Laid, SideTo}
+use Rattle.gathering.specs.Side.{lookAt, Side}
+use Rattle.lengths.specs.Length.{Gathered}
 use Rattle.pairs.specs.Narrow.{Narrows, NoPair, NarrowAnswer, cleared}
+use Rattle.equals.specs.Inner.{Whole, Laid, SideTo}
 use Rattle.equals.proofs.Table.{same-path, same-told, told-straight, told-turned, gathered-collected}
 use Rattle.equals.proofs.Sides.{narrowed, narrowed-size, narrowed-at, narrowed-out, cleared-rest}
 
@@ -130,3 +129,7 @@ says-none {w = w} {w₁ = w₁} {w₂ = w₂} n s e = record { both = λ z. absu
 
 pub says-some : {x y w w₁ w₂ ox oy ox′ oy′ : List ℕ} → Narrows Same x y ox oy ox′ oy′ → Same-rest w w₁ → w₂ ≡ cleared 63001 w₁ → NarrowAnswer Same x y w ox oy w₂ ox′ oy′ true
 says-some {w = w} {w₁ = w₁} {w₂ = w₂} b s e = record { both = λ z. b; neither = λ z. absurd (true≢false z); work-cleared = still-cleared w w₁ w₂ s e }
+
+-- an accepted shape is whole
+pub whole-of : {xs : List ℕ} → Accepted xs → Whole xs
+whole-of a = record { blocks = a .right .whole; sound = a .sound; short = a .short }

@@ -1,15 +1,13 @@
 -- The outputs, put together from their blocks. Assumes nothing.
 use mathlib.Core.Path.{_≡_, refl, sym, ap, _∙_, subst}
 use mathlib.Core.List.{List, [], _∷_, _++_, append-assoc}
-use mathlib.Core.Logic.{_⊎_, inl, inr, ⊎-elim}
+use mathlib.Core.Logic.{⊎-elim}
 use Prim.Native.Nat.{ℕ, zero, suc, _+_, _-_, _*_, _/_, _%_, _^_, _≤_, _<_}
-use native.Mathlib.Nat.{add-zero}
 use native.Mathlib.Numerals.{add-one}
 use native.Mathlib.Omega.{arith}
-use lib.ListN.{length, getD, set, take, drop, replicate, length-take, length-drop, length-append, length-set, take-append-drop, length-replicate, replicate-append-replicate}
+use lib.ListN.{length, getD, set, take, drop, replicate, length-drop, length-append, take-append-drop, length-replicate, replicate-append-replicate}
 use lib.Seq.{ext-getD, getD-take, getD-drop, length-take-le, set-at, drop-cons}
-use Rattle.bases.proofs.Plain.{lt-or-le, eq-or-ne}
-use Rattle.shapes.specs.All.{All}
+use Rattle.bases.proofs.Plain.{lt-or-le}
 use Rattle.shapes.specs.Shape.{Block, total}
 use Rattle.shapes.specs.Lent.{blockAt, shapeOf, wordsOf}
 use Rattle.shapes.proofs.All.{all-of}
@@ -19,9 +17,9 @@ use Rattle.hulls.specs.Hull.{blank}
 use Rattle.rests.proofs.Tight.{total-take}
 use Rattle.layouts.specs.Slots.{Put}
 use Rattle.layouts.proofs.Slots.{blocks-same, put-others}
-use Rattle.gathering.specs.Side.{Gathered}
-use Rattle.equals.specs.Inner.{SideTo}
+use Rattle.lengths.specs.Length.{Gathered}
 use Rattle.pairs.specs.Narrow.{cleared}
+use Rattle.equals.specs.Inner.{SideTo}
 
 -- ---- one side, block by block
 

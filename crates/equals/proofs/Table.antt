@@ -1,21 +1,20 @@
 -- What a table tells of a block is what the pairs of fillings with one text give it. Assumes nothing.
 use mathlib.Core.Path.{_≡_, refl, sym, ap, _∙_, subst}
-use mathlib.Core.Bool.{Bool, true, false}
-use mathlib.Core.List.{List, [], _∷_}
-use mathlib.Core.Logic.{_⊎_, inl, inr, ⊎-elim}
-use Prim.Native.Nat.{ℕ, zero, suc, _+_, _-_, _≤_, _<_}
+use mathlib.Core.Bool.{true, false}
+use mathlib.Core.List.{List}
+use Prim.Native.Nat.{ℕ, _+_, _≤_, _<_}
 use native.Mathlib.Omega.{arith}
-use Rattle.bases.specs.Base.{Holds, Meets}
-use Rattle.bases.proofs.Plain.{lt-or-le, eq-or-ne}
+use Rattle.bases.specs.Base.{Holds}
 use Rattle.shapes.specs.Shape.{Block}
-use Rattle.rests.specs.Walk.{lessen, here, Move, first, second, both, Path, stay, move, Bounded}
+use Rattle.rests.specs.Walk.{here, Move, first, second, both, Path, stay, move, Bounded}
 use Rattle.rests.specs.Collect.{Passes, Ends, empty, filled, Collected}
 use Rattle.rests.proofs.Walks.{onward, path-of, path-append, path-from, turn-path}
-use Rattle.rests.proofs.Laid.{Has, to-end}
+use Rattle.rests.proofs.Laid.{to-end}
 use Rattle.rests.proofs.Cut.{Place}
 use Rattle.tables.specs.Table.{look}
 use Rattle.marks.specs.Marks.{Told}
-use Rattle.gathering.specs.Side.{lookAt, Shown, EmptyRun, LastAt, Length, Gathered}
+use Rattle.gathering.specs.Side.{lookAt, Shown}
+use Rattle.lengths.specs.Length.{Length, Gathered}
 
 -- ---- the same slots, the same paths
 

@@ -7,7 +7,7 @@ use Rattle.shapes.specs.All.{All}
 use Rattle.shapes.specs.Shape.{Block, Sound, total}
 use Rattle.shapes.specs.Lent.{shapeOf, blockAt}
 use Rattle.layouts.specs.Slots.{LaidOut}
-use Rattle.gathering.specs.Side.{Gathered}
+use Rattle.lengths.specs.Length.{Gathered}
 
 -- Numbers that are a shape of any number of blocks, whose uppers add to at most 250.
 pub record Whole (xs : List ℕ) : Type 0 where

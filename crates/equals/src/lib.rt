@@ -1,14 +1,13 @@
 // Exact narrowing of two shapes under equality of their texts.
 ghost use mathlib.Core.Path.{_≡_};
-ghost use Prim.Native.Nat.{_+_, _*_, _/_, _≤_, _<_};
+ghost use Prim.Native.Nat.{_/_, _≤_, _<_};
 ghost use lib.ListN.{length};
-ghost use Rattle.shapes.specs.Shape.{total};
-ghost use Rattle.shapes.specs.Lent.{shapeOf, blockAt};
-ghost use Rattle.pairs.specs.Pair.{Room};
-ghost use Rattle.pairs.specs.Narrow.{Narrows, NarrowAnswer, cleared};
+ghost use Rattle.shapes.specs.Lent.{blockAt};
 ghost use Rattle.rests.specs.Walk.{Path, Same};
 ghost use Rattle.tables.specs.Table.{FinishFrom, Same-rest};
 ghost use Rattle.gathering.specs.Side.{Side, lookAt};
+ghost use Rattle.pairs.specs.Narrow.{Narrows, NarrowAnswer, cleared};
+ghost use Rattle.pairs.specs.Pair.{Room};
 ghost use Rattle.equals.specs.Inner.{Whole, Laid, SideTo};
 
 // Writes each block of one side as the table tells of it.
@@ -23,7 +22,7 @@ fn narrow_side(x: &[u64], other: &[u64], m: usize, work: &[u8], turned: bool, ou
     let mut i = 0;
     while i < n {
         let b = shapes::block_at(x, i);
-        let h = gathering::narrow_block(b, other, m, work, turned, p);
+        let h = lengths::narrow_block(b, other, m, work, turned, p);
         layouts::put_block(out, i, h);
         p += b.upper as usize;
         i += 1;

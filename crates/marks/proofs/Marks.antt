@@ -1,8 +1,8 @@
 -- The cells that say which positions are reached. Assumes nothing.
 use mathlib.Core.Path.{_≡_, refl, sym, ap, _∙_, subst}
-use mathlib.Core.List.{List, [], _∷_}
-use mathlib.Core.Logic.{_⊎_, inl, inr, ⊎-elim}
-use Prim.Native.Nat.{ℕ, zero, suc, _+_, _-_, _*_, _≤_, _<_}
+use mathlib.Core.List.{List}
+use mathlib.Core.Logic.{⊎-elim}
+use Prim.Native.Nat.{ℕ, zero, suc, _+_, _*_, _≤_, _<_}
 use native.Mathlib.Omega.{arith}
 use lib.ListN.{length, getD, set, length-set}
 use Rattle.bases.specs.Base.{Meets}
@@ -10,7 +10,7 @@ use Rattle.bases.proofs.Plain.{lt-or-le, eq-or-ne}
 use Rattle.shapes.specs.Shape.{Block}
 use Rattle.rests.specs.Walk.{Move, first, second, both, Path, stay, move, Bounded}
 use Rattle.rests.proofs.Walks.{onward, path-append, path-then, path-from}
-use Rattle.tables.specs.Table.{look, Says, FinishFrom, Same-rest}
+use Rattle.tables.specs.Table.{look, FinishFrom, Same-rest}
 use Rattle.marks.specs.Marks.{raise, pushed, Pushed, done, left, MarkedTo, Told}
 use Rattle.tables.proofs.Cells.{one-index, set-here, set-there, rest-refl, rest-set}
 use lib.Seq.{getD-set-same}

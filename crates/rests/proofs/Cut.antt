@@ -1,17 +1,16 @@
 -- The runs that a block has in pairs of readings of one text are those that paths tell of. Assumes nothing.
 use mathlib.Core.Path.{_≡_, refl, sym, ap, _∙_, subst}
 use mathlib.Core.List.{List, [], _∷_, _++_, append-assoc, List·Memᴰ·head, List·Memᴰ·tail}
-use Prim.Native.Nat.{ℕ, zero, suc, _+_, _*_, _-_, _≤_, _<_}
-use native.Mathlib.Nat.{add-zero, zero-add}
+use Prim.Native.Nat.{ℕ, suc, _+_, _≤_, _<_}
 use native.Mathlib.Omega.{arith}
 use lib.ListN.{length, length-append}
-use Rattle.bases.specs.Base.{Holds, Meets}
+use Rattle.bases.specs.Base.{Holds}
 use Rattle.shapes.specs.All.{All, more}
 use Rattle.shapes.specs.Shape.{Block, Run}
 use Rattle.shapes.proofs.All.{all-append, all-left, all-right, all-head, all-tail}
 use Rattle.hulls.specs.Hull.{Occurs, Tight}
 use Rattle.hulls.proofs.Tight.{all-from}
-use Rattle.rests.specs.Walk.{Walk, here, skip, step, Path, Bounded}
+use Rattle.rests.specs.Walk.{Walk, step, Bounded}
 use Rattle.rests.specs.Collect.{Passes, Ends, empty, filled, Collected}
 use Rattle.rests.proofs.Walks.{walk-from, walk-to, walk-text, walk-append, split-text, split-char, path-of, text-of, below-character, ends-within}
 use Rattle.rests.proofs.Laid.{Has, steps, run-walk, walk-run, inside, enter}

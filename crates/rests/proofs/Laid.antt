@@ -1,21 +1,21 @@
 -- Blocks laid out from a position: their runs as readings, and the bounds. Assumes nothing.
 use mathlib.Core.Path.{_≡_, refl, sym, ap, _∙_, subst}
-use mathlib.Core.Bool.{Bool, true, false}
-use mathlib.Core.List.{List, [], _∷_, _++_, append-assoc}
-use Prim.Native.Nat.{ℕ, zero, suc, _+_, _*_, _-_, _≤_, _<_}
-use mathlib.Core.Logic.{_⊎_, inl, inr, ⊎-elim}
-use native.Mathlib.Nat.{add-zero, zero-add, add-assoc}
+use mathlib.Core.Bool.{Bool, false}
+use mathlib.Core.List.{List, [], _∷_, _++_}
+use Prim.Native.Nat.{ℕ, suc, _+_, _-_, _≤_, _<_}
+use mathlib.Core.Logic.{⊎-elim}
+use native.Mathlib.Nat.{zero-add}
 use native.Mathlib.Omega.{arith}
 use borrow.Author.Tests.{lt-ltb, le-ltb}
 use lib.Dec.{ltb}
-use lib.ListN.{length, getD, take, drop}
-use Rattle.bases.specs.Base.{Holds, Empty, Meets}
+use lib.ListN.{length}
+use Rattle.bases.specs.Base.{Holds, Empty}
 use Rattle.bases.proofs.Laws.{none-in-zero}
-use Rattle.bases.proofs.Plain.{lt-or-le, eq-or-ne}
+use Rattle.bases.proofs.Plain.{lt-or-le}
 use Rattle.shapes.specs.All.{All, more}
-use Rattle.shapes.specs.Shape.{Block, Sound, Run, Filling, done, fill, Fits, textOf, total}
+use Rattle.shapes.specs.Shape.{Block, total}
 use Rattle.rests.specs.Walk.{lessen, past, pick, slotAt, Walk, here, skip, step, Bounded}
-use Rattle.rests.proofs.Walks.{walk-from, walk-to, walk-text, walk-append, forwards}
+use Rattle.rests.proofs.Walks.{walk-from, walk-to, walk-append, forwards}
 
 -- ---- the slots of a shape
 

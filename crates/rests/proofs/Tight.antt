@@ -2,10 +2,10 @@
 -- and otherwise the blocks that paths tell of. Assumes nothing.
 use mathlib.Core.Path.{_≡_, refl, sym, ap, _∙_, subst}
 use mathlib.Core.List.{List, [], _∷_, _++_, append-assoc}
-use mathlib.Core.Logic.{_⊎_, inl, inr, ⊎-elim}
-use Prim.Native.Nat.{ℕ, zero, suc, _+_, _*_, _-_, _≤_, _<_}
+use mathlib.Core.Logic.{⊎-elim}
+use Prim.Native.Nat.{ℕ, zero, suc, _+_, _-_, _≤_, _<_}
 use native.Mathlib.Omega.{arith}
-use lib.ListN.{length, getD, take, drop, length-append, List·getD-append}
+use lib.ListN.{length, getD, take, length-append, List·getD-append}
 use lib.Seq.{getD-take, getD-drop, getD-append-add}
 use Rattle.bases.proofs.Plain.{lt-or-le}
 use Rattle.shapes.specs.All.{All, more}
@@ -16,7 +16,7 @@ use Rattle.hulls.proofs.Fill.{filling-size, split-first, split-second, pair-sat
 use Rattle.hulls.proofs.Tight.{tight-same}
 use Rattle.rests.specs.Walk.{slotAt, Walk, here, Path, Bounded, Same}
 use Rattle.rests.specs.Collect.{Ends, Collected}
-use Rattle.rests.proofs.Walks.{walk-from, walk-to, walk-text, walk-append, path-of, text-of, still}
+use Rattle.rests.proofs.Walks.{walk-from, walk-to, walk-text, path-of, text-of, still}
 use Rattle.rests.proofs.Laid.{Has, Slots, none, next, slots, bounded, in-slots, run-walk, walk-run}
 use Rattle.rests.proofs.Cut.{Place, RunIn, ends-of, collected-tight}
 

@@ -1,16 +1,13 @@
 -- Cells of the table: which index is whose, and a cell set. Assumes nothing.
 use mathlib.Core.Path.{_≡_, refl, sym, ap, _∙_, subst}
-use mathlib.Core.List.{List, [], _∷_}
-use mathlib.Core.Logic.{_⊎_, inl, inr, ⊎-elim}
-use Prim.Native.Nat.{ℕ, zero, suc, _+_, _-_, _*_, _≤_, _<_}
+use mathlib.Core.List.{List}
+use Prim.Native.Nat.{ℕ, _+_, _*_, _≤_, _<_}
 use native.Mathlib.Omega.{arith}
-use lib.ListN.{length, getD, set, drop, length-set}
+use lib.ListN.{length, set, length-set}
 use lib.Seq.{getD-set-same, getD-set-other, drop-set-lt}
-use Rattle.bases.specs.Base.{Holds, Meets}
-use Rattle.bases.proofs.Plain.{lt-or-le, eq-or-ne}
+use Rattle.bases.specs.Base.{Holds}
 use Rattle.shapes.specs.Shape.{Block}
 use Rattle.shapes.specs.Lent.{blockAt}
-use Rattle.rests.specs.Walk.{Bounded}
 use Rattle.rests.proofs.Walks.{below, below-character}
 use Rattle.tables.specs.Table.{look, Grid, Near, Same-rest}
 

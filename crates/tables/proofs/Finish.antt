@@ -1,15 +1,15 @@
 -- The cells that say whether one text leads both shapes to their ends. Assumes nothing.
 use mathlib.Core.Path.{_≡_, refl, sym, ap, _∙_, subst}
-use mathlib.Core.List.{List, [], _∷_}
-use mathlib.Core.Logic.{_⊎_, inl, inr, ⊎-elim}
-use Prim.Native.Nat.{ℕ, zero, suc, _+_, _-_, _*_, _≤_, _<_}
+use mathlib.Core.List.{List}
+use mathlib.Core.Logic.{⊎-elim}
+use Prim.Native.Nat.{ℕ, _+_, _*_, _≤_, _<_}
 use native.Mathlib.Omega.{arith}
 use lib.ListN.{length, getD, set}
 use borrow.Author.Tests.{ltb-true, ltb-false}
 use lib.Dec.{ltb}
 use Rattle.bases.specs.Base.{Meets}
 use Rattle.bases.specs.Tells.{Tells}
-use Rattle.bases.proofs.Plain.{lt-or-le, eq-or-ne}
+use Rattle.bases.proofs.Plain.{eq-or-ne}
 use Rattle.shapes.specs.Shape.{Block}
 use Rattle.rests.specs.Walk.{Move, first, second, both, Path, stay, move, Bounded}
 use Rattle.rests.proofs.Walks.{onward}

@@ -1,7 +1,6 @@
 // The table of two shapes, first pass: for each pair of positions whether one text leads both to their ends.
 use shapes::Words;
 ghost use mathlib.Core.Path.{_≡_};
-ghost use mathlib.Core.List.{[], _∷_};
 ghost use Prim.Native.Nat.{_+_, _*_, _≤_, _<_};
 ghost use lib.ListN.{length};
 ghost use Rattle.bases.specs.Base.{Meets};

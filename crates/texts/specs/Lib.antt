@@ -1,2 +1,3 @@
--- The order of texts.
+-- The order of texts, and the relations that rules name.
 pub mod Order
+pub mod Kind

@@ -1,6 +1,4 @@
 -- `equals::narrow_laid`: the first cell tells whether there is a pair. Assumes nothing.
-use mathlib.Core.Path.{_≡_, sym, _∙_}
-use Prim.Native.Nat.{_≤_}
 use native.Mathlib.Omega.{arith}
 use Rattle.tables.proofs.Cells.{rest-trans}
 use Rattle.equals.proofs.Equal.{grid-of, some-path, neither-of, says-none, says-some}

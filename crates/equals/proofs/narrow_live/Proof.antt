@@ -1,9 +1,5 @@
 -- `equals::narrow_live`: the marks, then one side and the other. Assumes nothing.
-use mathlib.Core.Path.{_≡_, sym, _∙_}
-use Prim.Native.Nat.{_≤_}
-use native.Mathlib.Omega.{arith}
 use Rattle.equals.proofs.Equal.{turn-laid, grid-of, side-of, both-of}
-use borrow.Author.Needs.{needs}
 use Rattle.equals.proofs.narrow_live.Statement.{statement}
 use Rattle.equals.proofs.narrow_live.Tie as tie
 

@@ -1,5 +1,5 @@
 -- `gathering::added`: as it was, or joined. Assumes nothing.
-use mathlib.Core.Path.{_≡_, refl}
+use mathlib.Core.Path.{refl}
 use borrow.Author.Tests.{not-true, not-false}
 use Rattle.gathering.proofs.Side.{not-both}
 use borrow.Author.Needs.{needs}

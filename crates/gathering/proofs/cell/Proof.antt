@@ -1,5 +1,5 @@
 -- `gathering::cell`: the table read as it stands, or turned. Assumes nothing.
-use mathlib.Core.Path.{_≡_, sym, ap}
+use mathlib.Core.Path.{sym, ap}
 use mathlib.Core.Bool.{Bool}
 use Rattle.gathering.specs.Side.{lookAt}
 use borrow.Author.Needs.{needs}

@@ -1,6 +1,5 @@
 -- `gathering::joined`: word by word. Assumes nothing.
 use Rattle.bases.proofs.Sets.{or-words}
-use borrow.Author.Needs.{needs}
 use Rattle.gathering.proofs.joined.Statement.{statement}
 use Rattle.gathering.proofs.joined.Tie as tie
 

@@ -1,5 +1,5 @@
 -- `gathering::joint`: one cell, then the other. Assumes nothing.
-use mathlib.Core.Path.{_≡_, sym, _∙_}
+use mathlib.Core.Path.{sym, _∙_}
 use native.Mathlib.Omega.{arith}
 use Rattle.bases.proofs.Laws.{tells-false}
 use Rattle.tables.proofs.Finish.{tells-then}

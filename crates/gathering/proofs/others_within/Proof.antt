@@ -1,6 +1,6 @@
 -- `gathering::others_within`: what the first k positions allow. Assumes nothing.
 use mathlib.Core.Path.{_≡_}
-use Prim.Native.Nat.{ℕ, _+_, _-_, _≤_, _<_}
+use Prim.Native.Nat.{_-_, _≤_}
 use native.Mathlib.Omega.{arith}
 use Rattle.shapes.specs.Lent.{blockAt}
 use Rattle.gathering.specs.Side.{lookAt, baseIn, Within}

@@ -1,6 +1,5 @@
 -- `gathering::shared`: word by word. Assumes nothing.
 use Rattle.bases.proofs.Sets.{and-words}
-use borrow.Author.Needs.{needs}
 use Rattle.gathering.proofs.shared.Statement.{statement}
 use Rattle.gathering.proofs.shared.Tie as tie
 

@@ -1,9 +1,9 @@
 -- `layouts::lay_out`: the blocks from block i on have their slots from p on. Assumes nothing.
 use mathlib.Core.Path.{_≡_, refl, sym, ap, _∙_}
-use Prim.Native.Nat.{ℕ, _+_, _-_, _/_, _≤_, _<_}
+use Prim.Native.Nat.{ℕ, _+_, _-_, _/_, _≤_}
 use native.Mathlib.Omega.{arith}
 use lib.ListN.{length, drop}
-use Rattle.shapes.specs.Shape.{Block, total}
+use Rattle.shapes.specs.Shape.{total}
 use Rattle.shapes.specs.Lent.{shapeOf, meant}
 use Rattle.shapes.proofs.Lent.{total-none}
 use Rattle.layouts.specs.Slots.{LaidFrom}

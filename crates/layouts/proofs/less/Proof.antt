@@ -1,5 +1,5 @@
 -- `layouts::less`: the counts lose k. Assumes nothing.
-use mathlib.Core.Path.{_≡_, refl}
+use mathlib.Core.Path.{refl}
 use Rattle.layouts.proofs.Slots.{blocks-same}
 use borrow.Author.Needs.{needs}
 use Rattle.layouts.proofs.less.Statement.{statement}

@@ -1,7 +1,6 @@
 -- `layouts::past_slot`: an empty base, and a lower that nothing uses up. Assumes nothing.
-use mathlib.Core.Path.{_≡_, refl}
+use mathlib.Core.Path.{refl}
 use Rattle.bases.specs.Base.{baseOf}
-use borrow.Author.Needs.{needs}
 use Rattle.layouts.proofs.past_slot.Statement.{statement}
 use Rattle.layouts.proofs.past_slot.Tie as tie
 

@@ -1,8 +1,5 @@
 -- `marks::mark_cell`: what a marked cell leads to is marked. Assumes nothing.
-use mathlib.Core.Path.{_≡_, refl}
-use Prim.Native.Nat.{_+_, _*_, _≤_, _<_}
 use native.Mathlib.Omega.{arith}
-use lib.ListN.{length}
 use Rattle.shapes.specs.Lent.{meant}
 use Rattle.tables.specs.Table.{Near, Same-rest}
 use Rattle.tables.proofs.Cells.{near, on-table, rest-refl, rest-trans}
@@ -23,7 +20,7 @@ slice-read-if1 c = let s = c .before .before .before .before in let g = s .pre .
 returns : tie.Need-returns
 returns c =
     let s = c .before .before .before .before .before in
-    (mark-skip (s .args .i) (s .args .j) (s .pre .0 .columns) (s .pre .1 .0 .1) (c .if1 .taken) (s .pre .1 .1), rest-refl _)
+    (mark-skip (s .args .i) (s .args .j) (s .pre .0 .columns) (s .pre .1 .0 .1) (λ z. let t = c .if1 .taken in omega arith) (s .pre .1 .1), rest-refl _)
 
 block-at-requires : tie.Need-block-at-requires
 block-at-requires c κs = let s = c .before .before .before .before .before in let g = s .pre .0 in let r = g .rows in let h = s .pre .1 .0 in let l = g .first-long in omega arith
@@ -77,7 +74,7 @@ returns-2 c =
     let n = moves b in
     let g = s .pre .0 in (
       mark-cell (g .first) (g .second) (g .rows) (g .columns) (s .args .i) (s .args .j) (s .pre .1 .0 .0) (s .pre .1 .0 .1)
-          (b .before .block-at .ensures) (b .block-at2 .ensures) (g .long) (b .before .before .if1 .left) (s .pre .1 .1)
+          (b .before .block-at .ensures) (b .block-at2 .ensures) (g .long) (let t = b .before .before .if1 .left in omega arith) (s .pre .1 .1)
           (r .push-first .ensures) (q .push-second .ensures) (p .push-both .ensures),
       rest-trans (second-rest q) (rest-push (λ l. let h = n .by-both l in on-table _ _ (omega arith) (omega arith)) (p .push-both .ensures)),
     )

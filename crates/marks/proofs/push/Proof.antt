@@ -1,5 +1,5 @@
 -- `marks::push`: one cell is raised. Assumes nothing.
-use mathlib.Core.Path.{_≡_, ap}
+use mathlib.Core.Path.{ap}
 use Prim.Native.Nat.{ℕ, _+_, _*_}
 use lib.ListN.{set}
 use Rattle.marks.specs.Marks.{pushed}

@@ -1,5 +1,5 @@
 -- `marks::push_second`: the cell where the run ends is raised, if it may end. Assumes nothing.
-use mathlib.Core.Path.{_≡_, refl}
+use mathlib.Core.Path.{refl}
 use Prim.Native.Nat.{_+_, _≤_}
 use native.Mathlib.Omega.{arith}
 use Rattle.marks.specs.Marks.{done, left}

@@ -1,9 +1,8 @@
 -- `marks::raised`: 0 stays, anything else is 2. Assumes nothing.
-use mathlib.Core.Path.{_≡_, sym, ap}
+use mathlib.Core.Path.{sym, ap}
 use native.Mathlib.Omega.{arith}
 use Rattle.marks.specs.Marks.{raise}
 use Rattle.marks.proofs.Marks.{raise-live}
-use borrow.Author.Needs.{needs}
 use Rattle.marks.proofs.raised.Statement.{statement}
 use Rattle.marks.proofs.raised.Tie as tie
 

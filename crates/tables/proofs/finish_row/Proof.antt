@@ -1,6 +1,6 @@
 -- `tables::finish_row`: every cell from j on, and of the rows after, says what it should. Assumes nothing.
-use mathlib.Core.Path.{_≡_, refl, sym}
-use Prim.Native.Nat.{ℕ, _+_, _*_, _-_, _≤_, _<_}
+use mathlib.Core.Path.{_≡_, refl}
+use Prim.Native.Nat.{_+_, _*_, _-_, _≤_, _<_}
 use native.Mathlib.Omega.{arith}
 use Rattle.shapes.specs.Lent.{blockAt}
 use Rattle.tables.specs.Table.{Grid, FinishFrom, Same-rest}

@@ -1,8 +1,6 @@
 -- `tables::finishes`: each move in turn, then the ends themselves. Assumes nothing.
-use native.Mathlib.Omega.{arith}
-use Rattle.tables.specs.Table.{Ahead, at-end, by-first, by-second, by-both}
+use Rattle.tables.specs.Table.{at-end, by-first, by-second, by-both}
 use Rattle.tables.proofs.Finish.{says-one, says-zero, no-move}
-use borrow.Author.Needs.{needs}
 use Rattle.tables.proofs.finishes.Statement.{statement}
 use Rattle.tables.proofs.finishes.Tie as tie
 

@@ -3,7 +3,6 @@ use Prim.Native.Nat.{_+_, _≤_}
 use native.Mathlib.Omega.{arith}
 use Rattle.bases.proofs.Laws.{tells-false}
 use Rattle.tables.proofs.Finish.{tells-then}
-use borrow.Author.Needs.{needs}
 use Rattle.tables.proofs.first_ends.Statement.{statement}
 use Rattle.tables.proofs.first_ends.Tie as tie
 

@@ -1,17 +1,17 @@
--- `gathering::can_end`: no position of the other shape before j will do. Assumes nothing.
-use mathlib.Core.Path.{_≡_, sym, subst}
+-- `lengths::can_end`: no position of the other shape before j will do. Assumes nothing.
+use mathlib.Core.Path.{sym}
 use mathlib.Core.List.{[], _∷_}
 use Prim.Native.Nat.{ℕ, _+_, _-_, _≤_, _<_}
 use native.Mathlib.Omega.{arith}
 use Rattle.bases.specs.Base.{Meets, baseOf}
 use Rattle.bases.proofs.Laws.{tells-false}
-use Rattle.shapes.specs.Shape.{Block}
 use Rattle.shapes.specs.Lent.{blockAt}
-use Rattle.gathering.specs.Side.{lookAt, Joint, LastAt}
-use Rattle.gathering.proofs.Side.{tells-true, none-more, meets-base}
+use Rattle.gathering.specs.Side.{lookAt, Joint}
+use Rattle.gathering.proofs.Side.{tells-true}
+use Rattle.lengths.proofs.Length.{none-more, meets-base}
 use borrow.Author.Needs.{needs}
-use Rattle.gathering.proofs.can_end.Statement.{statement}
-use Rattle.gathering.proofs.can_end.Tie as tie
+use Rattle.lengths.proofs.can_end.Statement.{statement}
+use Rattle.lengths.proofs.can_end.Tie as tie
 
 abbrev Inv-loop : tie.InvT-loop
 Inv-loop low high other m work turned i e j₀ j = (j ≤ m) × ((k : ℕ) → k < j → Meets (baseOf (low ∷ (high ∷ []))) (blockAt other k .base) × Joint (lookAt turned work) i k e (k + 1) → ⊥)

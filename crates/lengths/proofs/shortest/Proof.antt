@@ -1,13 +1,13 @@
--- `gathering::shortest`: no run is shorter than n. Assumes nothing.
+-- `lengths::shortest`: no run is shorter than n. Assumes nothing.
 use mathlib.Core.Path.{_≡_}
-use Prim.Native.Nat.{ℕ, _+_, _-_, _≤_, _<_}
+use Prim.Native.Nat.{_-_, _≤_}
 use native.Mathlib.Omega.{arith}
 use Rattle.shapes.specs.Lent.{blockAt, meant}
 use Rattle.gathering.specs.Side.{lookAt}
-use Rattle.gathering.proofs.Side.{NoneBelow, none-below, none-below-more, shortest-here, shortest-last}
+use Rattle.lengths.proofs.Length.{NoneBelow, none-below, none-below-more, shortest-here, shortest-last}
 use borrow.Author.Needs.{needs}
-use Rattle.gathering.proofs.shortest.Statement.{statement}
-use Rattle.gathering.proofs.shortest.Tie as tie
+use Rattle.lengths.proofs.shortest.Statement.{statement}
+use Rattle.lengths.proofs.shortest.Tie as tie
 
 abbrev Inv-loop : tie.InvT-loop
 Inv-loop b other m work turned p upper n₀ n = (upper ≡ b .upper) × (n ≤ upper) × NoneBelow (lookAt turned work) (blockAt other) m p (meant b) n

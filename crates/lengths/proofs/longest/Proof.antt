@@ -1,13 +1,13 @@
--- `gathering::longest`: no run is longer than n. Assumes nothing.
+-- `lengths::longest`: no run is longer than n. Assumes nothing.
 use mathlib.Core.Path.{_≡_, refl}
-use Prim.Native.Nat.{ℕ, _+_, _-_, _≤_, _<_}
+use Prim.Native.Nat.{_≤_, _<_}
 use native.Mathlib.Omega.{arith}
 use Rattle.shapes.specs.Lent.{blockAt, meant}
 use Rattle.gathering.specs.Side.{lookAt}
-use Rattle.gathering.proofs.Side.{NoneAbove, none-above, none-above-more, longest-here, longest-last}
+use Rattle.lengths.proofs.Length.{NoneAbove, none-above, none-above-more, longest-here, longest-last}
 use borrow.Author.Needs.{needs}
-use Rattle.gathering.proofs.longest.Statement.{statement}
-use Rattle.gathering.proofs.longest.Tie as tie
+use Rattle.lengths.proofs.longest.Statement.{statement}
+use Rattle.lengths.proofs.longest.Tie as tie
 
 abbrev Inv-loop : tie.InvT-loop
 Inv-loop b other m work turned p n₀ n = (n ≤ b .upper) × NoneAbove (lookAt turned work) (blockAt other) m p (meant b) n
@@ -33,7 +33,7 @@ loop-less c = omega arith
 loop-again : tie.Need-loop-again Inv-loop μ-loop
 loop-again c =
     let l = c .before .before .before .loop in
-    (omega arith, none-above-more (c .before .before .loop-test .taken) (l .inv .1) (c .before .has-length .ensures .not-so (c .if1 .left)))
+    (omega arith, none-above-more (let h : 0 < l .n = omega arith in h) (l .inv .1) (c .before .has-length .ensures .not-so (c .if1 .left)))
 
 returns-2 : tie.Need-returns-2 Inv-loop μ-loop
 returns-2 c = let l = c .before .loop in longest-last (let e : l .n ≡ 0 = omega arith in e) (l .inv .1)

@@ -1,11 +1,10 @@
--- `gathering::last_with`: whether the bases meet, then the cells. Assumes nothing.
-use native.Mathlib.Omega.{arith}
+-- `lengths::last_with`: whether the bases meet, then the cells. Assumes nothing.
 use borrow.Author.Tests.{not-true, not-false}
 use Rattle.bases.proofs.Laws.{tells-false}
 use Rattle.gathering.proofs.Side.{tells-map}
 use borrow.Author.Needs.{needs}
-use Rattle.gathering.proofs.last_with.Statement.{statement}
-use Rattle.gathering.proofs.last_with.Tie as tie
+use Rattle.lengths.proofs.last_with.Statement.{statement}
+use Rattle.lengths.proofs.last_with.Tie as tie
 
 meets-requires : tie.Need-meets-requires
 meets-requires c κs = search needs

@@ -1,13 +1,13 @@
--- `gathering::can_be_empty`: no position of the other shape before j will do. Assumes nothing.
-use mathlib.Core.Path.{_≡_}
+-- `lengths::can_be_empty`: no position of the other shape before j will do. Assumes nothing.
 use Prim.Native.Nat.{ℕ, _+_, _-_, _≤_, _<_}
 use native.Mathlib.Omega.{arith}
 use Rattle.bases.proofs.Laws.{tells-false}
-use Rattle.gathering.specs.Side.{lookAt, Joint, EmptyRun}
-use Rattle.gathering.proofs.Side.{tells-true, none-more}
+use Rattle.gathering.specs.Side.{lookAt, Joint}
+use Rattle.gathering.proofs.Side.{tells-true}
+use Rattle.lengths.proofs.Length.{none-more}
 use borrow.Author.Needs.{needs}
-use Rattle.gathering.proofs.can_be_empty.Statement.{statement}
-use Rattle.gathering.proofs.can_be_empty.Tie as tie
+use Rattle.lengths.proofs.can_be_empty.Statement.{statement}
+use Rattle.lengths.proofs.can_be_empty.Tie as tie
 
 abbrev Inv-loop : tie.InvT-loop
 Inv-loop m work turned p e j₀ j = (j ≤ m + 1) × ((k : ℕ) → k < j → Joint (lookAt turned work) p k e k → ⊥)

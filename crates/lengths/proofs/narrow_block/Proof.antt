@@ -1,8 +1,8 @@
--- `gathering::narrow_block`: the base, the least and the greatest length. Assumes nothing.
-use Rattle.gathering.proofs.Side.{gathered}
+-- `lengths::narrow_block`: the base, the least and the greatest length. Assumes nothing.
+use Rattle.lengths.proofs.Length.{gathered}
 use borrow.Author.Needs.{needs}
-use Rattle.gathering.proofs.narrow_block.Statement.{statement}
-use Rattle.gathering.proofs.narrow_block.Tie as tie
+use Rattle.lengths.proofs.narrow_block.Statement.{statement}
+use Rattle.lengths.proofs.narrow_block.Tie as tie
 
 others-within-requires : tie.Need-others-within-requires
 others-within-requires c κs = search needs

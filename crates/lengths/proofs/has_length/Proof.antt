@@ -1,11 +1,12 @@
--- `gathering::has_length`: no character, or the last one. Assumes nothing.
+-- `lengths::has_length`: no character, or the last one. Assumes nothing.
 use native.Mathlib.Omega.{arith}
 use Rattle.bases.proofs.Laws.{tells-false}
-use Rattle.gathering.specs.Side.{empty}
-use Rattle.gathering.proofs.Side.{tells-map, length-zero, length-filled, length-of-filled}
+use Rattle.lengths.specs.Length.{empty}
+use Rattle.gathering.proofs.Side.{tells-map}
+use Rattle.lengths.proofs.Length.{length-zero, length-filled, length-of-filled}
 use borrow.Author.Needs.{needs}
-use Rattle.gathering.proofs.has_length.Statement.{statement}
-use Rattle.gathering.proofs.has_length.Tie as tie
+use Rattle.lengths.proofs.has_length.Statement.{statement}
+use Rattle.lengths.proofs.has_length.Tie as tie
 
 add-e : tie.Need-add-e
 add-e c = search needs

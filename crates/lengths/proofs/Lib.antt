@@ -1,0 +1,2 @@
+-- The laws of a run's lengths.
+pub mod Length

@@ -1,0 +1,3 @@
+-- Narrowing under equality as a function that computes, and worked examples.
+pub mod Equal
+pub mod Rows
