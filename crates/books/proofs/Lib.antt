@@ -9,3 +9,5 @@ pub mod Falls
 pub mod Frame
 pub mod Made
 pub mod Standing
+pub mod Once
+pub mod Says

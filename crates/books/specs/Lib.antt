@@ -5,3 +5,4 @@ pub mod Refused
 pub mod Walk
 pub mod Room
 pub mod Code
+pub mod Runner

@@ -5,8 +5,10 @@ use Prim.Native.Nat.{ℕ}
 use Rattle.answers.specs.declared.Checked.{Checked}
 use Rattle.answers.specs.declared.Fit.{Fit}
 use Rattle.answers.specs.declared.Narrowed.{Narrowed}
+use Rattle.answers.specs.declared.Ran.{Ran}
 use Rattle.answers.specs.declared.Swept.{Swept}
 use Rattle.answers.specs.declared.Written.{Written}
+use Rattle.books.specs.Walk.{RunPromise}
 use Rattle.extremes.specs.declared.Direction.the-variants.{Least, Greatest}
 use Rattle.extremes.specs.Extreme.{ExtremePromise}
 use Rattle.fitting.specs.Fit.{FitPromise}
@@ -42,3 +44,14 @@ Sweep xs ys out out′ r = SweepPromise xs ys out out′ r
 -- narrowing under equality: lent xs and ys, work, and two outputs ox and oy; with ′ they are as handed back
 abbrev pub NarrowEqual : List ℕ → List ℕ → List ℕ → List ℕ → List ℕ → List ℕ → List ℕ → List ℕ → Narrowed → Type 0
 NarrowEqual xs ys work ox oy work′ ox′ oy′ r = NarrowPromise (λ t u. t ≡ u) xs ys work ox oy work′ ox′ oy′ r
+
+-- the same under "at most" and "before"
+abbrev pub NarrowAtMost : List ℕ → List ℕ → List ℕ → List ℕ → List ℕ → List ℕ → List ℕ → List ℕ → Narrowed → Type 0
+NarrowAtMost xs ys work ox oy work′ ox′ oy′ r = NarrowPromise AtMost xs ys work ox oy work′ ox′ oy′ r
+
+abbrev pub NarrowBefore : List ℕ → List ℕ → List ℕ → List ℕ → List ℕ → List ℕ → List ℕ → List ℕ → Narrowed → Type 0
+NarrowBefore xs ys work ox oy work′ ox′ oy′ r = NarrowPromise Before xs ys work ox oy work′ ox′ oy′ r
+
+-- running a book: lent the texts' block counts, all blocks, the rules and work; with ′ blocks and work as handed back
+abbrev pub RunBook : List ℕ → List ℕ → List ℕ → List ℕ → List ℕ → List ℕ → Ran → Type 0
+RunBook counts blocks rules work blocks′ work′ r = RunPromise counts blocks rules work blocks′ work′ r

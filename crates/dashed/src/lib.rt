@@ -3,9 +3,10 @@
 use answers::Checked;
 use answers::Fit;
 use answers::Narrowed;
+use answers::Ran;
 use answers::Swept;
 use answers::Written;
-ghost use Rattle.dashed.specs.Promises.{CheckShape, FitsShape, Earlier, LeastText, GreatestText, Sweep, NarrowEqual};
+ghost use Rattle.dashed.specs.Promises.{CheckShape, FitsShape, Earlier, LeastText, GreatestText, Sweep, NarrowEqual, NarrowAtMost, NarrowBefore, RunBook};
 
 // Checks a shape, lent as 64-bit numbers, four to a block.
 pub fn check_shape(shape: &[u64]) -> Checked
@@ -62,5 +63,41 @@ pub fn narrow_equal(
     ensures { λ r. ⌜ NarrowEqual (now (x .entry)) (now (y .entry)) (now (work .entry)) (now («out_x» .entry)) (now («out_y» .entry))
         (now (work .exit)) (now («out_x» .exit)) (now («out_y» .exit)) r ⌝ }
 {
-    pair_calls::narrow_equal(x, y, work, out_x, out_y)
+    kinds::narrow(0, x, y, work, out_x, out_y)
+}
+
+// The same over the pairs in which the text of x is at most that of y.
+pub fn narrow_at_most(
+    x: &[u64],
+    y: &[u64],
+    work: &mut [u8],
+    out_x: &mut [u64],
+    out_y: &mut [u64],
+) -> Narrowed
+    ensures { λ r. ⌜ NarrowAtMost (now (x .entry)) (now (y .entry)) (now (work .entry)) (now («out_x» .entry)) (now («out_y» .entry))
+        (now (work .exit)) (now («out_x» .exit)) (now («out_y» .exit)) r ⌝ }
+{
+    kinds::narrow(1, x, y, work, out_x, out_y)
+}
+
+// The same over the pairs in which the text of x is before that of y.
+pub fn narrow_before(
+    x: &[u64],
+    y: &[u64],
+    work: &mut [u8],
+    out_x: &mut [u64],
+    out_y: &mut [u64],
+) -> Narrowed
+    ensures { λ r. ⌜ NarrowBefore (now (x .entry)) (now (y .entry)) (now (work .entry)) (now («out_x» .entry)) (now («out_y» .entry))
+        (now (work .exit)) (now («out_x» .exit)) (now («out_y» .exit)) r ⌝ }
+{
+    kinds::narrow(2, x, y, work, out_x, out_y)
+}
+
+// Runs a book of rules: the texts' block counts, all their blocks end to end, the rules as triples (kind, a, b). The final shapes are left in the blocks; on none
+// they are as on entry. It hands back the applications made and takes a work buffer of at least 63,001 bytes.
+pub fn run_book(counts: &[u64], blocks: &mut [u64], rules: &[u64], work: &mut [u8]) -> Ran
+    ensures { λ r. ⌜ RunBook (now (counts .entry)) (now (blocks .entry)) (now (rules .entry)) (now (work .entry)) (now (blocks .exit)) (now (work .exit)) r ⌝ }
+{
+    books::run_book(counts, blocks, rules, work)
 }

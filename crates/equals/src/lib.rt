@@ -30,7 +30,7 @@ fn narrow_side(x: &[u64], other: &[u64], m: usize, work: &[u8], turned: bool, ou
 }
 
 // Sets the table to 0.
-fn clear(work: &mut [u8])
+pub fn clear(work: &mut [u8])
     requires { ⌜ 63001 ≤ length (now work) ⌝ }
     ensures { λ _. ⌜ now (work .exit) ≡ cleared 63001 (now (work .entry)) ⌝ }
 {

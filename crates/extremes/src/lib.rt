@@ -12,7 +12,7 @@ ghost use Rattle.shapes.specs.All.{All};
 ghost use Rattle.shapes.specs.Shape.{Sound, Small};
 ghost use Rattle.shapes.specs.Lent.{meant, shapeOf, Accepted};
 ghost use Rattle.extremes.specs.Steps.{charOf, goesFirst, onwards, taken, after, extreme};
-ghost use Rattle.extremes.specs.Extreme.{ExtremePromise};
+ghost use Rattle.extremes.specs.Extreme.{TextWritten, ExtremePromise};
 ghost use Rattle.extremes.specs.Code.{Chosen};
 
 // Which text is wanted.
@@ -191,6 +191,16 @@ fn write_runs(d: Direction, shape: &[u64], all: [Choice; 32], out: &mut [u8]) ->
     at
 }
 
+// The least or the greatest text of a shape that is accepted, at the start of the output, and its length.
+pub fn write_extreme(d: Direction, shape: &[u64], out: &mut [u8]) -> usize
+    requires { ⌜ Accepted (now shape) ⌝ }
+    requires { ⌜ 250 ≤ length (now out) ⌝ }
+    ensures { λ r. ⌜ TextWritten d (now (shape .entry)) (now (out .entry)) (now (out .exit)) r ⌝ }
+{
+    let all = choices(d, shape);
+    write_runs(d, shape, all, out)
+}
+
 // The least or the greatest text of a shape.
 fn extreme_text(d: Direction, shape: &[u64], out: &mut [u8]) -> Written
     ensures { λ r. ⌜ ExtremePromise d (now (shape .entry)) (now (out .entry)) (now (out .exit)) r ⌝ }
@@ -201,8 +211,7 @@ fn extreme_text(d: Direction, shape: &[u64], out: &mut [u8]) -> Written
             if out.len() < 250 {
                 return Written::Refused(Refusal::Output(0));
             }
-            let all = choices(d, shape);
-            Written::Text(write_runs(d, shape, all, out))
+            Written::Text(write_extreme(d, shape, out))
         }
     }
 }

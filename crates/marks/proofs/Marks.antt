@@ -32,7 +32,7 @@ unfolding pushed
 rest-pushed w k h = rest-set w k _ h
 
 -- the mark of a cell by its positions
-look-at : (w : List ℕ) {a b d e v : ℕ} → d ≡ a → e ≡ b → look w a b ≡ v → look w d e ≡ v
+pub look-at : (w : List ℕ) {a b d e v : ℕ} → d ≡ a → e ≡ b → look w a b ≡ v → look w d e ≡ v
 look-at w {a} {b} {d} {e} p q u = ap (λ (z : ℕ). look w z e) p ∙ ap (λ (z : ℕ). look w a z) q ∙ u
 
 -- what a push leaves in a cell: as it was, or raised
@@ -40,7 +40,7 @@ pub record Grown (w w′ : List ℕ) (k : ℕ) : Type 0 where
   pub other : (i j : ℕ) → (i * 251 + j ≡ k → ⊥) → look w′ i j ≡ look w i j
   pub raised : (i j : ℕ) → i * 251 + j ≡ k → look w′ i j ≡ raise (look w i j)
 
-grown : (w : List ℕ) (k : ℕ) → k < length w → Grown w (pushed w k) k
+pub grown : (w : List ℕ) (k : ℕ) → k < length w → Grown w (pushed w k) k
 unfolding pushed
 grown w k h = record {
   other = λ i j n. set-there w k i j _ n;
@@ -49,25 +49,25 @@ grown w k h = record {
 }
 
 module _ {w w′ : List ℕ} {k : ℕ} (g : Grown w w′ k) where
-  grown-live : (i j : ℕ) → 0 < look w′ i j → 0 < look w i j
+  pub grown-live : (i j : ℕ) → 0 < look w′ i j → 0 < look w i j
   grown-live i j v = ⊎-elim
       (λ e. live-raise (look w i j) (subst (λ (z : ℕ). 0 < z) (g .raised i j e) v))
       (λ e. subst (λ (z : ℕ). 0 < z) (g .other i j e) v)
       (eq-or-ne (i * 251 + j) k)
 
-  grown-hit : (i j : ℕ) → i * 251 + j ≡ k → 0 < look w i j → look w′ i j ≡ 2
+  pub grown-hit : (i j : ℕ) → i * 251 + j ≡ k → 0 < look w i j → look w′ i j ≡ 2
   grown-hit i j e v = g .raised i j e ∙ raise-live (look w i j) v
 
-  grown-keeps : (i j : ℕ) → look w i j ≡ 2 → look w′ i j ≡ 2
+  pub grown-keeps : (i j : ℕ) → look w i j ≡ 2 → look w′ i j ≡ 2
   grown-keeps i j v = ⊎-elim (λ e. grown-hit i j e (omega arith)) (λ e. g .other i j e ∙ v) (eq-or-ne (i * 251 + j) k)
 
-  grown-after : (i j : ℕ) → 0 < look w i j → 0 < look w′ i j
+  pub grown-after : (i j : ℕ) → 0 < look w i j → 0 < look w′ i j
   grown-after i j v = ⊎-elim
       (λ e. let z = grown-hit i j e v in omega arith)
       (λ e. subst (λ (z : ℕ). 0 < z) (sym (g .other i j e)) v)
       (eq-or-ne (i * 251 + j) k)
 
-pushed-long : (w : List ℕ) (k : ℕ) → length (pushed w k) ≡ length w
+pub pushed-long : (w : List ℕ) (k : ℕ) → length (pushed w k) ≡ length w
 unfolding pushed
 pushed-long w k = length-set w k _
 

@@ -31,7 +31,7 @@ fn push(work: &mut [u8], i: usize, j: usize)
 }
 
 // Marks what the first reaches where its run may end.
-fn push_first(work: &mut [u8], a: Words, i: usize, j: usize)
+pub fn push_first(work: &mut [u8], a: Words, i: usize, j: usize)
     requires { ⌜ 63001 ≤ length (now work) ⌝ }
     requires { ⌜ j ≤ 250 ⌝ }
     requires { ⌜ (a .lower ≡ 0 → i + a .upper ≤ 250) ⌝ }
@@ -57,7 +57,7 @@ fn push_second(work: &mut [u8], b: Words, i: usize, j: usize)
 }
 
 // Marks what both reach where they may take one character.
-fn push_both(work: &mut [u8], a: Words, b: Words, i: usize, j: usize)
+pub fn push_both(work: &mut [u8], a: Words, b: Words, i: usize, j: usize)
     requires { ⌜ 63001 ≤ length (now work) ⌝ }
     requires { ⌜ (Meets (meant a .base) (meant b .base) → (i < 250) × (j < 250)) ⌝ }
     ensures { λ _. ⌜ Pushed (Meets (meant a .base) (meant b .base)) (now (work .entry)) ((i + 1) * 251 + (j + 1)) (now (work .exit)) ⌝ }

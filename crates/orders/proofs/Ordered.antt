@@ -21,13 +21,13 @@ at-most-ordered = record { earlier = λ t u v p q. at-most-trans p q; later = λ
 pub before-ordered : Ordered Before
 before-ordered = record { earlier = λ t u v p q. before-trans′ p q; later = λ t u v p q. before-trans p q }
 
-of-least : {t u : List ℕ} → NoFurther Least t u → AtMost t u
+pub of-least : {t u : List ℕ} → NoFurther Least t u → AtMost t u
 of-least (at-most p) = p
 
 of-greatest : {t u : List ℕ} → NoFurther Greatest t u → AtMost u t
 of-greatest (at-least p) = p
 
-fitting : {S : List Block} {f : List (List ℕ)} → Filling S f → Fits S (textOf f)
+pub fitting : {S : List Block} {f : List (List ℕ)} → Filling S f → Fits S (textOf f)
 fitting {f = f} x = record { runs = f; filling = x; joined = refl }
 
 module _ (R : List ℕ → List ℕ → Type 0) (o : Ordered R) {X Y : List Block} (m M : List ℕ) (least : Extreme Least X m) (greatest : Extreme Greatest Y M) where

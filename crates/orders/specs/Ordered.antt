@@ -1,4 +1,4 @@
--- Document 01, "Narrowing": the relations "X at most Y" and "X before Y". Both go along with the order of texts.
+-- Document 01, "Narrowing": the relations "X at most Y" and "X before Y". Narrows go along with the order of texts.
 use mathlib.Core.List.{List}
 use Prim.Native.Nat.{ℕ}
 use Rattle.texts.specs.Order.{AtMost}

@@ -1,3 +1,2 @@
--- The sweep's promise from its steps, that the promise determines the outcome, and what narrowing asks.
+-- The sweep's promise from its steps, and that the promise determines the outcome.
 pub mod Sweeping
-pub mod Whole

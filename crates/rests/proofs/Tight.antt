@@ -128,20 +128,20 @@ total-take [] i h = absurd (omega arith)
 total-take (b ∷ s) zero h = omega arith
 total-take (b ∷ s) (suc i) h = let r = total-take s i (omega arith) in omega arith
 
-slots-take : {X : ℕ → Block} {p : ℕ} {s : List Block} (i : ℕ) → Slots X p s → Slots X p (take i s)
+pub slots-take : {X : ℕ → Block} {p : ℕ} {s : List Block} (i : ℕ) → Slots X p s → Slots X p (take i s)
 slots-take zero none = none
 slots-take zero (next h k) = none
 slots-take (suc i) none = none
 slots-take (suc i) (next h k) = next h (slots-take i k)
 
-has-at : {X : ℕ → Block} {p : ℕ} {s : List Block} → Slots X p s → (i : ℕ) → i < length s → Has X (p + total (take i s)) (getD s i blank)
+pub has-at : {X : ℕ → Block} {p : ℕ} {s : List Block} → Slots X p s → (i : ℕ) → i < length s → Has X (p + total (take i s)) (getD s i blank)
 unfolding total
 has-at none i h = absurd (omega arith)
 has-at {X} {p} (next {b = b} k r) zero h = subst (λ (x : ℕ). Has X x b) (let e : p ≡ p + 0 = omega arith in e) k
 has-at {X} {p} (next {b = b} {s = s} k r) (suc i) h =
     subst (λ (x : ℕ). Has X x (getD s i blank)) (let e : p + b .upper + total (take i s) ≡ p + (b .upper + total (take i s)) = omega arith in e) (has-at r i (omega arith))
 
-start-at : {X : ℕ → Block} {b : Block} (n : ℕ) → Has X (0 + n) b → Has X n b
+pub start-at : {X : ℕ → Block} {b : Block} (n : ℕ) → Has X (0 + n) b → Has X n b
 start-at {X} {b} n h = subst (λ (x : ℕ). Has X x b) (let e : 0 + n ≡ n = omega arith in e) h
 
 pub place : (X Y : List Block) → All Sound X → (i : ℕ) → i < length X → Place (slotAt X) (slotAt Y) (total X) (total Y) (total (take i X)) (getD X i blank)

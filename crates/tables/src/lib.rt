@@ -9,7 +9,7 @@ ghost use Rattle.shapes.specs.Lent.{meant, blockAt};
 ghost use Rattle.tables.specs.Table.{look, Grid, Says, Ahead, Near, FinishFrom, Same-rest};
 
 // Whether the first may end its run, and both can then end.
-fn first_ends(work: &[u8], a: Words, i: usize, j: usize) -> bool
+pub fn first_ends(work: &[u8], a: Words, i: usize, j: usize) -> bool
     requires { ⌜ 63001 ≤ length (now work) ⌝ }
     requires { ⌜ j ≤ 250 ⌝ }
     requires { ⌜ (a .lower ≡ 0 → i + a .upper ≤ 250) ⌝ }
@@ -37,7 +37,7 @@ fn second_ends(work: &[u8], b: Words, i: usize, j: usize) -> bool
 }
 
 // Whether both may take one character, and can then end.
-fn both_take(work: &[u8], a: Words, b: Words, i: usize, j: usize) -> bool
+pub fn both_take(work: &[u8], a: Words, b: Words, i: usize, j: usize) -> bool
     requires { ⌜ 63001 ≤ length (now work) ⌝ }
     requires { ⌜ (Meets (meant a .base) (meant b .base) → (i < 250) × (j < 250)) ⌝ }
     ensures { λ r. ⌜ Tells r (Meets (meant a .base) (meant b .base) × (0 < look (now (work .entry)) (i + 1) (j + 1))) ⌝ }

@@ -1,11 +1,10 @@
--- `pair_calls::narrow_equal`: the refusals of a pair, then the work. Assumes nothing.
+-- `kinds::narrow`: the refusals of a pair, then the work. Assumes nothing.
 use mathlib.Core.Path.{_≡_, refl, subst}
 use borrow.Author.Needs.{needs}
 use lib.ListN.{length}
 use Rattle.pairs.specs.Pair.{PairAccepted, Room, NarrowChecked}
-use Rattle.pair_calls.proofs.Whole.{whole}
-use Rattle.pair_calls.proofs.narrow_equal.Statement.{statement}
-use Rattle.pair_calls.proofs.narrow_equal.Tie as tie
+use Rattle.kinds.proofs.narrow.Statement.{statement}
+use Rattle.kinds.proofs.narrow.Tie as tie
 
 check-narrow-requires : tie.Need-check-narrow-requires
 check-narrow-requires c κs = search needs
@@ -24,10 +23,10 @@ accepted c =
     let a = c .before .before .before .before .before .before .before .before .args in
     subst (NarrowChecked (a .x .now) (a .y .now) (length (a .work .now)) (length (a .out-x .now)) (length (a .out-y .now))) (c .enum-told .given .1) (c .before .before .check-narrow .ensures)
 
-narrow-equal-requires : tie.Need-narrow-equal-requires
-narrow-equal-requires c κs =
+narrow-accepted-requires : tie.Need-narrow-accepted-requires
+narrow-accepted-requires c κs =
     let ok = accepted (c .before .before .before) in
-    (whole (ok .0 .first), (whole (ok .0 .second), ok .1))
+    ok
 
 same-length : tie.Need-same-length
 same-length c = search needs
@@ -42,7 +41,7 @@ returns : tie.Need-returns
 returns c =
     let n = c .before .before .before .before .before .before .before in
     let ok = accepted (n .before .before .before .before) in
-    (record { shapes = ok .0; room = ok .1; work-cleared = n .narrow-equal .ensures .work-cleared }, n .narrow-equal .ensures .both (c .if1 .taken))
+    (record { shapes = ok .0; room = ok .1; work-cleared = n .narrow-accepted .ensures .work-cleared }, n .narrow-accepted .ensures .both (c .if1 .taken))
 
 returns-2 : tie.Need-returns-2
 returns-2 c =
@@ -64,9 +63,9 @@ returns-3 : tie.Need-returns-3
 returns-3 c =
     let n = c .before .before .before .before .before .before .before in
     let ok = accepted (n .before .before .before .before) in
-    (record { shapes = ok .0; room = ok .1; work-cleared = n .narrow-equal .ensures .work-cleared }, n .narrow-equal .ensures .neither (c .if1 .left))
+    (record { shapes = ok .0; room = ok .1; work-cleared = n .narrow-accepted .ensures .work-cleared }, n .narrow-accepted .ensures .neither (c .if1 .left))
 
-pub narrow-equal-spec : {M : Type 1} → statement M
-narrow-equal-spec =
+pub narrow-spec : {M : Type 1} → statement M
+narrow-spec =
     tie.close
-    (tie.spec check-narrow-requires enum-known-r enum-told narrow-equal-requires same-length same-length-2 same-length-3 returns returns-2 same-length-4 same-length-5 same-length-6 returns-3)
+    (tie.spec check-narrow-requires enum-known-r enum-told narrow-accepted-requires same-length same-length-2 same-length-3 returns returns-2 same-length-4 same-length-5 same-length-6 returns-3)

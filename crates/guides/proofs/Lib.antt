@@ -1,0 +1,3 @@
+-- The laws of guides.
+pub mod Sides
+pub mod Slots

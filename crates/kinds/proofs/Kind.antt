@@ -1,0 +1,29 @@
+-- What the inner calls answer, as the relation of a kind. Assumes nothing.
+use mathlib.Core.Path.{_≡_, refl, sym, ap, _∙_, subst}
+use mathlib.Core.Bool.{Bool, true, false, not}
+use mathlib.Core.List.{List}
+use Prim.Native.Nat.{ℕ, zero, suc}
+use native.Mathlib.Omega.{arith}
+use borrow.Author.Tests.{eq-eqb, ne-eqb}
+use lib.Dec.{eqb}
+use Rattle.shapes.specs.Lent.{Accepted}
+use Rattle.texts.specs.Kind.{relationOf}
+use Rattle.texts.specs.Order.{AtMost, Before}
+use Rattle.pairs.specs.Narrow.{NarrowAnswer}
+use Rattle.rests.specs.Walk.{Same}
+use Rattle.equals.specs.Inner.{Whole}
+
+pub whole : {xs : List ℕ} → Accepted xs → Whole xs
+whole a = record { blocks = a .right .whole; sound = a .sound; short = a .short }
+
+module _ {xs ys w ox oy w′ ox′ oy′ : List ℕ} {r : Bool} where
+  pub by-equality : (k : ℕ) → k ≡ 0 → NarrowAnswer Same xs ys w ox oy w′ ox′ oy′ r → NarrowAnswer (relationOf k) xs ys w ox oy w′ ox′ oy′ r
+  unfolding relationOf
+  by-equality k e a = subst (λ (n : ℕ). NarrowAnswer (relationOf n) xs ys w ox oy w′ ox′ oy′ r) (sym e) a
+
+  pub by-order : (k : ℕ) → (k ≡ 0 → ⊥) → (not (eqb k 1) ≡ false → NarrowAnswer AtMost xs ys w ox oy w′ ox′ oy′ r)
+      → (not (eqb k 1) ≡ true → NarrowAnswer Before xs ys w ox oy w′ ox′ oy′ r) → NarrowAnswer (relationOf k) xs ys w ox oy w′ ox′ oy′ r
+  unfolding relationOf
+  by-order zero n a b = absurd (n refl)
+  by-order (suc zero) n a b = a (ap not (eq-eqb 1 1 refl))
+  by-order (suc (suc k)) n a b = b (ap not (ne-eqb (suc (suc k)) 1 (λ e. omega arith)))

@@ -1,0 +1,2 @@
+-- What the inner calls answer, by kind.
+pub mod Kind

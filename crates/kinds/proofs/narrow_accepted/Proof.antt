@@ -1,0 +1,48 @@
+-- `kinds::narrow_accepted`: by the kind. Assumes nothing.
+use borrow.Author.Needs.{needs}
+use Rattle.kinds.proofs.Kind.{whole, by-equality, by-order}
+use Rattle.kinds.proofs.narrow_accepted.Statement.{statement}
+use Rattle.kinds.proofs.narrow_accepted.Tie as tie
+
+narrow-equal-requires : tie.Need-narrow-equal-requires
+narrow-equal-requires c κs =
+    let p = c .before .before .before .before .before .before .before .before .before .pre in
+    (whole (p .0 .first), (whole (p .0 .second), p .1))
+
+same-length : tie.Need-same-length
+same-length c = search needs
+
+same-length-2 : tie.Need-same-length-2
+same-length-2 c = search needs
+
+same-length-3 : tie.Need-same-length-3
+same-length-3 c = search needs
+
+returns : tie.Need-returns
+returns c =
+    let n = c .before .before .before .before .before .before in
+    by-equality _ (n .before .before .before .before .if1 .taken) (n .narrow-equal .ensures)
+
+narrow-order-requires : tie.Need-narrow-order-requires
+narrow-order-requires c κs =
+    let p = c .before .before .before .before .before .before .before .before .before .pre in
+    (p .0 .first, (p .0 .second, p .1))
+
+same-length-4 : tie.Need-same-length-4
+same-length-4 c = search needs
+
+same-length-5 : tie.Need-same-length-5
+same-length-5 c = search needs
+
+same-length-6 : tie.Need-same-length-6
+same-length-6 c = search needs
+
+returns-2 : tie.Need-returns-2
+returns-2 c =
+    let n = c .before .before .before .before .before .before in
+    by-order _ (n .before .before .before .before .if1 .left) (n .narrow-order .ensures .0) (n .narrow-order .ensures .1)
+
+pub narrow-accepted-spec : {M : Type 1} → statement M
+narrow-accepted-spec =
+    tie.close
+    (tie.spec narrow-equal-requires same-length same-length-2 same-length-3 returns narrow-order-requires same-length-4 same-length-5 same-length-6 returns-2)

@@ -1,0 +1,2 @@
+-- Bases that hold one character, those below one, or those above.
+pub mod Words

@@ -1,0 +1,132 @@
+-- Both sides narrowed, each by the extreme text of the other: what that leaves is the narrowing of the two. Assumes nothing.
+use mathlib.Core.Path.{_≡_, refl, sym, ap, _∙_, subst}
+use mathlib.Core.Bool.{Bool, true, false}
+use mathlib.Core.List.{List, [], _∷_, _++_}
+use Prim.Native.Nat.{ℕ, _+_, _≤_, _<_}
+use native.Mathlib.Omega.{arith}
+use lib.ListN.{length, getD, take, drop}
+use lib.Seq.{take-at, getD-take}
+use Rattle.shapes.specs.All.{All}
+use Rattle.shapes.specs.Shape.{Block, Sound, Small, Filling, Fits, textOf, total}
+use Rattle.shapes.specs.Lent.{shapeOf, Accepted}
+use Rattle.shapes.proofs.All.{all-at}
+use Rattle.shapes.proofs.Fits.{fits-length}
+use Rattle.texts.specs.Order.{AtMost, Before}
+use Rattle.extremes.specs.declared.Direction.{Direction}
+use Rattle.extremes.specs.declared.Direction.the-variants.{Least, Greatest}
+use Rattle.extremes.specs.Steps.{extreme}
+use Rattle.extremes.specs.Extreme.{Extreme, TextWritten}
+use Rattle.hulls.specs.Hull.{Satisfies, None, Hull}
+use Rattle.hulls.proofs.Hull.{same-rule}
+use Rattle.tables.specs.Table.{Same-rest}
+use Rattle.pairs.specs.Narrow.{cleared, Narrows, NoPair, NarrowAnswer}
+use Rattle.equals.specs.Inner.{Whole}
+use Rattle.equals.proofs.Sides.{cleared-rest}
+use Rattle.guides.specs.Sides.{Side}
+use Rattle.guides.specs.Shown.{Plain}
+use Rattle.guides.proofs.Sides.{side-at-most, at-most-side, side-before, before-side, side-at-least, at-least-side, side-after, after-side}
+use Rattle.side_hulls.specs.Narrowed.{OneNarrowed, One}
+use Rattle.side_hulls.proofs.Hulls.{text-small}
+use Rattle.orders.specs.Ordered.{Ordered}
+use Rattle.orders.proofs.Ordered.{at-most-ordered, before-ordered, of-least, fitting, order-hull, order-none}
+
+-- ---- the text of the other side
+
+pub whole-of : {x : List ℕ} → Accepted x → Whole x
+whole-of a = record { blocks = a .right .whole; sound = a .sound; short = a .short }
+
+module _ {e : Direction} {x out out′ : List ℕ} {n : ℕ} (w : TextWritten e x out out′ n) where
+  pub text-taken : take n out′ ≡ extreme e (shapeOf x)
+  text-taken = ap (take n) (w .bytes) ∙ take-at (extreme e (shapeOf x)) (drop n out) n (sym (w .length-is))
+
+  pub text-short : n ≤ 250
+  text-short = let l = fits-length (w .meaning .fits) in let s = w .accepted .short in let e = w .length-is in omega arith
+
+  pub text-plain : length out′ ≡ 250 → All Small (shapeOf x) → Plain out′ n
+  text-plain l s = record {
+    within = let h = text-short in omega arith;
+    code = λ q h. subst (λ (z : ℕ). z < 128) (ap (λ (t : List ℕ). getD t q 0) (sym text-taken) ∙ getD-take n out′ q 0 h)
+        (all-at 0 small q (let d = w .length-is in omega arith));
+  }
+    where
+      small : All (λ c. c < 128) (extreme e (shapeOf x))
+      small = subst (All (λ c. c < 128)) (w .meaning .fits .joined) (text-small s (w .meaning .fits .filling))
+
+pub one-by : {d : Direction} {strict : Bool} {T U x out out′ : List ℕ} {r : Bool} → T ≡ U → One (λ f. Side d strict (textOf f) T) x out out′ r → One (λ f. Side d strict (textOf f) U) x out out′ r
+one-by {d} {strict} {x = x} {out} {out′} {r} e o = subst (λ (z : List ℕ). One (λ f. Side d strict (textOf f) z) x out out′ r) e o
+
+-- ---- a relation that both sides see
+
+pub record Faced (R : List ℕ → List ℕ → Type 0) (strict : Bool) : Type 0 where
+  pub ordered : Ordered R
+  pub first : (t u : List ℕ) → Side Least strict t u → R t u
+  pub first-back : (t u : List ℕ) → R t u → Side Least strict t u
+  pub second : (t u : List ℕ) → Side Greatest strict t u → R u t
+  pub second-back : (t u : List ℕ) → R u t → Side Greatest strict t u
+
+pub at-most-faced : {strict : Bool} → strict ≡ false → Faced AtMost strict
+at-most-faced e = subst (Faced AtMost) (sym e) (record {
+  ordered = at-most-ordered;
+  first = λ t u s. side-at-most s;
+  first-back = λ t u s. at-most-side s;
+  second = λ t u s. side-at-least s;
+  second-back = λ t u s. at-least-side s;
+})
+
+pub before-faced : {strict : Bool} → strict ≡ true → Faced Before strict
+before-faced e = subst (Faced Before) (sym e) (record {
+  ordered = before-ordered;
+  first = λ t u s. side-before s;
+  first-back = λ t u s. before-side s;
+  second = λ t u s. side-after s;
+  second-back = λ t u s. after-side s;
+})
+
+true-false : {A : Type 0} → _≡_ {A = Bool} true false → A
+true-false e = let z : _≡_ {A = ℕ} 0 1 = cc in absurd (omega arith)
+
+-- ---- both sides
+
+module _ {R : List ℕ → List ℕ → Type 0} {strict : Bool} (f : Faced R strict) (x y : List ℕ) (m M : List ℕ) (least : Extreme Least (shapeOf x) m) (greatest : Extreme Greatest (shapeOf y) M) where
+  -- where some text of X is right, the extreme texts are
+  meet : {X′ : List Block} → Hull (λ g. Side Least strict (textOf g) M) (shapeOf x) X′ → R m M
+  meet h =
+      let s = h .some .satisfies in
+      f .ordered .earlier m (textOf (h .some .runs)) M (of-least (least .first _ (fitting (s .filling)))) (f .first _ _ (s .rule))
+
+  never-second : R m M → None (λ g. Side Greatest strict (textOf g) m) (shapeOf y) → ⊥
+  never-second r n = n .never (greatest .fits .runs)
+      (record { filling = greatest .fits .filling; rule = subst (λ (t : List ℕ). Side Greatest strict t m) (sym (greatest .fits .joined)) (f .second-back M m r) })
+
+  never-first : None (λ g. Side Least strict (textOf g) M) (shapeOf x) → R m M → ⊥
+  never-first n r = n .never (least .fits .runs)
+      (record { filling = least .fits .filling; rule = subst (λ (t : List ℕ). Side Least strict t M) (sym (least .fits .joined)) (f .first-back m M r) })
+
+  both-of : {ox oy ox′ oy′ : List ℕ} → OneNarrowed (λ g. Side Least strict (textOf g) M) x ox ox′ → OneNarrowed (λ g. Side Greatest strict (textOf g) m) y oy oy′ → Narrows R x y ox oy ox′ oy′
+  both-of a b = record {
+    first = a .blocks;
+    second = b .blocks;
+    size = a .hull .size;
+    hull = order-hull R (f .ordered) m M least greatest
+        (same-rule (λ g z s. f .first _ _ s) (λ g z s. f .first-back _ _ s) (a .hull))
+        (same-rule (λ g z s. f .second _ _ s) (λ g z s. f .second-back _ _ s) (b .hull));
+    first-output = a .words;
+    second-output = b .words;
+  }
+
+  pub says-none : {w w₁ w′ ox oy ox′ : List ℕ} {q : Bool} → q ≡ false → One (λ g. Side Least strict (textOf g) M) x ox ox′ q → Same-rest w w₁ → w′ ≡ cleared 63001 w₁ → NarrowAnswer R x y w ox oy w′ ox′ oy false
+  says-none n a s e = record {
+    both = λ z. true-false (sym z);
+    neither = λ z. record { none = order-none R (f .ordered) m M least greatest (never-first (a .none n)); first-output = a .kept n; second-output = refl };
+    work-cleared = e ∙ cleared-rest 63001 _ _ (s .rest);
+  }
+
+  pub says-some : {w w₁ w₂ w′ ox oy ox′ oy′ : List ℕ} {q r : Bool} → q ≡ true → One (λ g. Side Least strict (textOf g) M) x ox ox′ q → One (λ g. Side Greatest strict (textOf g) m) y oy oy′ r
+      → Same-rest w w₁ → Same-rest w₁ w₂ → w′ ≡ cleared 63001 w₂ → NarrowAnswer R x y w ox oy w′ ox′ oy′ r
+  says-some n a b s t e =
+      let p = a .some n in
+      record {
+        both = λ z. both-of p (b .some z);
+        neither = λ z. absurd (never-second (meet (p .hull)) (b .none z));
+        work-cleared = e ∙ cleared-rest 63001 _ _ (t .rest ∙ s .rest);
+      }

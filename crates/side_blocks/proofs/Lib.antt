@@ -1,0 +1,3 @@
+-- The laws of the blocks read from the table.
+pub mod Reading
+pub mod Blocks

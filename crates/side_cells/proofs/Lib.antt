@@ -1,0 +1,2 @@
+-- The laws of what is read from the table.
+pub mod Cells

@@ -1,0 +1,59 @@
+-- `side_cells::parts_at`: none of the states before q. Assumes nothing.
+use mathlib.Core.Path.{refl}
+use Prim.Native.Nat.{_+_, _-_, _≤_}
+use native.Mathlib.Omega.{arith}
+use Rattle.shapes.specs.Lent.{meant}
+use Rattle.side_cells.specs.Cells.{Parts}
+use Rattle.side_cells.proofs.Cells.{NotYet, not-yet, nor-this, told-none, told-some, parts-of, of-parts}
+use borrow.Author.Needs.{needs}
+use Rattle.side_cells.proofs.parts_at.Statement.{statement}
+use Rattle.side_cells.proofs.parts_at.Tie as tie
+
+abbrev Inv-loop : tie.InvT-loop
+Inv-loop parts m work a i q₀ q = (q ≤ m + 1) × NotYet q (Parts work parts i (meant a))
+
+abbrev μ-loop : tie.MeasureT-loop
+μ-loop parts m work a i q₀ q = m + 1 - q
+
+loop-holds : tie.Need-loop-holds Inv-loop μ-loop
+loop-holds c = (search needs, not-yet)
+
+block-at-requires : tie.Need-block-at-requires Inv-loop μ-loop
+block-at-requires c κs = let p = c .before .before .before .before .pre in let l = p .3 in let h = p .0 in omega arith
+
+parts-here-requires : tie.Need-parts-here-requires Inv-loop μ-loop
+parts-here-requires c κs = let p = c .before .before .before .before .before .pre in let h = p .0 in (p .1, (let z = c .before .loop-test .taken in omega arith), p .2)
+
+returns : tie.Need-returns Inv-loop μ-loop
+returns c =
+    let l = c .before .before .before .before .loop in
+    told-some (l .q) (let z = c .before .before .before .loop-test .taken in omega arith) (parts-of (c .before .before .block-at .ensures) (c .before .parts-here .ensures .so (c .if1 .taken)))
+
+add-q : tie.Need-add-q Inv-loop μ-loop
+add-q c = let p = c .before .before .before .before .before .before .before .pre in let h = p .0 in omega arith
+
+loop-less : tie.Need-loop-less Inv-loop μ-loop
+loop-less c = omega arith
+
+loop-again : tie.Need-loop-again Inv-loop μ-loop
+loop-again c =
+    let l = c .before .before .before .before .loop in
+    (omega arith, nor-this (l .q) _ refl (l .inv .1) (λ x. c .before .parts-here .ensures .not-so (c .if1 .left) (of-parts (c .before .before .block-at .ensures) x)))
+
+returns-2 : tie.Need-returns-2 Inv-loop μ-loop
+returns-2 c = let l = c .before .loop in told-none (l .q) (let z = c .loop-test .left in omega arith) (l .inv .1)
+
+pub parts-at-spec : {M : Type 1} → statement M
+parts-at-spec =
+    tie.close
+    (tie.spec
+    Inv-loop
+    μ-loop
+    loop-holds
+    block-at-requires
+    parts-here-requires
+    returns
+    add-q
+    loop-less
+    loop-again
+    returns-2)

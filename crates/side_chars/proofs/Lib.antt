@@ -1,0 +1,2 @@
+-- The laws of the characters read from the table.
+pub mod Chars

@@ -1,0 +1,2 @@
+-- The characters read from the table.
+pub mod Chars

@@ -1,0 +1,68 @@
+-- Answers of one side, and the guide of a fixed text as the rule of being on its right side. Assumes nothing.
+use mathlib.Core.Path.{_≡_, refl, sym, ap, _∙_, subst}
+use mathlib.Core.Bool.{Bool, true, false}
+use mathlib.Core.List.{List, [], _∷_, _++_}
+use mathlib.Core.Logic.{_⊎_, inl, inr, ⊎-elim}
+use Prim.Native.Nat.{ℕ, _+_, _-_, _/_, _%_, _^_, _≤_, _<_}
+use native.Mathlib.Nat.{div-eq-of-lt, lt-of-lt-of-le}
+use native.Mathlib.Omega.{arith}
+use lib.ListN.{length, getD, take}
+use lib.Pow.{pow-mono}
+use Rattle.bases.specs.Base.{Holds}
+use Rattle.bases.proofs.Plain.{lt-or-le}
+use Rattle.shapes.specs.All.{All, more}
+use Rattle.shapes.specs.Shape.{Block, Small, Run, Filling, done, fill, textOf}
+use Rattle.shapes.specs.Lent.{shapeOf}
+use Rattle.shapes.proofs.All.{all-append, all-map}
+use Rattle.hulls.specs.Hull.{None, Hull}
+use Rattle.hulls.proofs.Hull.{same-rule, same-none}
+use Rattle.extremes.specs.declared.Direction.{Direction}
+use Rattle.order_sides.specs.Guide.{Guide, Kept, Ended}
+use Rattle.side_tables.specs.Board.{guideOf}
+use Rattle.guides.specs.Sides.{Side}
+use Rattle.guides.specs.Shown.{GuideTo}
+use Rattle.guides.proofs.Sides.{guide-side, side-guide}
+use Rattle.side_hulls.specs.Narrowed.{OneNarrowed, One}
+
+-- ---- characters of a shape of 64-bit numbers
+
+small-holds : (b c : ℕ) → b < 2 ^ 128 → Holds b c → c < 128
+unfolding Holds
+small-holds b c h k = ⊎-elim
+    (λ l. l)
+    (λ l.
+    let z : b / 2 ^ c ≡ 0 = div-eq-of-lt (lt-of-lt-of-le h (pow-mono l)) in
+    let y : _≡_ {A = ℕ} 0 1 = sym (ap (λ (v : ℕ). v % 2) z) ∙ k in
+    absurd (omega arith))
+    (lt-or-le c 128)
+
+pub text-small : {S : List Block} {f : List (List ℕ)} → All Small S → Filling S f → All (λ c. c < 128) (textOf f)
+unfolding textOf
+text-small g done = All.none
+text-small (more s g) (fill {b = b} r f) = all-append (all-map (λ c h. small-holds (b .base) c s h) (r .held)) (text-small g f)
+
+-- ---- answers
+
+true-false : {A : Type 0} → _≡_ {A = Bool} true false → A
+true-false e = let z : _≡_ {A = ℕ} 0 1 = cc in absurd (omega arith)
+
+pub one-none : {P : List (List ℕ) → Type 0} {x out : List ℕ} → None P (shapeOf x) → One P x out out false
+one-none n = record { some = λ e. true-false (sym e); none = λ e. n; kept = λ e. refl }
+
+pub one-some : {P : List (List ℕ) → Type 0} {x out out′ : List ℕ} → OneNarrowed P x out out′ → One P x out out′ true
+one-some s = record { some = λ e. s; none = λ e. true-false e; kept = λ e. true-false e }
+
+pub one-map : {P Q : List (List ℕ) → Type 0} {x out out′ : List ℕ} {r : Bool} → ((f : List (List ℕ)) → Filling (shapeOf x) f → P f → Q f) → ((f : List (List ℕ)) → Filling (shapeOf x) f → Q f → P f)
+    → One P x out out′ r → One Q x out out′ r
+one-map to from o = record {
+  some = λ e. let s = o .some e in record { blocks = s .blocks; hull = same-rule to from (s .hull); words = s .words };
+  none = λ e. same-none from (o .none e);
+  kept = o .kept;
+}
+
+pub one-side : {d : Direction} {strict : Bool} {T next parts x out out′ : List ℕ} {r : Bool} → GuideTo d strict T next parts (length T + 1) → All Small (shapeOf x)
+    → One (Kept (guideOf next parts)) x out out′ r → One (λ f. Side d strict (textOf f) T) x out out′ r
+one-side g s o = one-map (λ f z k. guide-side g k) (λ f z k. side-guide g (text-small s z) k) o
+
+pub ended-at : {G : Guide} {n m : ℕ} → n ≡ m → Ended G n → Ended G m
+ended-at {G} e x = subst (Ended G) e x

@@ -1,0 +1,3 @@
+-- The laws of narrowing one shape.
+pub mod Ready
+pub mod Hulls

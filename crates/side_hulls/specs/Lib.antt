@@ -1,0 +1,2 @@
+-- One shape narrowed by what is on the right side of a fixed text.
+pub mod Narrowed

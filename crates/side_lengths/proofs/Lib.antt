@@ -1,0 +1,2 @@
+-- The laws of the lengths.
+pub mod Lengths

@@ -1,0 +1,54 @@
+-- `side_lengths::longest`: no length after n. Assumes nothing.
+use mathlib.Core.Path.{refl}
+use Prim.Native.Nat.{ℕ, _+_, _-_, _≤_}
+use native.Mathlib.Omega.{arith}
+use Rattle.shapes.specs.Lent.{meant}
+use Rattle.side_lengths.specs.Lengths.{EndsBy}
+use Rattle.side_lengths.proofs.Lengths.{NoneAbove, none-above, none-below, longest-found, longest-last}
+use borrow.Author.Needs.{needs}
+use Rattle.side_lengths.proofs.longest.Statement.{statement}
+use Rattle.side_lengths.proofs.longest.Tie as tie
+
+abbrev Inv-loop : tie.InvT-loop
+Inv-loop next m work b p free low n₀ n = (b .lower ≤ n) × (n ≤ b .upper) × NoneAbove n (b .upper) (EndsBy work next m p (meant b) free)
+
+abbrev μ-loop : tie.MeasureT-loop
+μ-loop next m work b p free low n₀ n = n
+
+loop-holds : tie.Need-loop-holds Inv-loop μ-loop
+loop-holds c = let s = c .before .before .pre .1 in let l = s .low in let h = s .high in (omega arith, omega arith, none-above _)
+
+ends-at-requires : tie.Need-ends-at-requires Inv-loop μ-loop
+ends-at-requires c κs = let p = c .before .before .before .before .pre .0 in ((p .0, p .1, omega arith), (p .2, p .3))
+
+returns : tie.Need-returns Inv-loop μ-loop
+returns c = let l = c .before .before .before .loop in longest-found (l .n) (l .inv .0) (l .inv .1) (l .inv .2) (c .before .ends-at .ensures .so (c .if1 .taken))
+
+sub-n : tie.Need-sub-n Inv-loop μ-loop
+sub-n c = omega arith
+
+loop-less : tie.Need-loop-less Inv-loop μ-loop
+loop-less c = omega arith
+
+loop-again : tie.Need-loop-again Inv-loop μ-loop
+loop-again c =
+    let l = c .before .before .before .loop in
+    let h = c .before .before .loop-test .taken in
+    (omega arith, omega arith, none-below (l .n) (l .n - 1) (omega arith) (l .inv .2) (c .before .ends-at .ensures .not-so (c .if1 .left)))
+
+returns-2 : tie.Need-returns-2 Inv-loop μ-loop
+returns-2 c = let l = c .before .loop in let h = c .loop-test .left in longest-last (l .n) (omega arith) (l .inv .1) (l .inv .2) (c .before .before .before .before .pre .1)
+
+pub longest-spec : {M : Type 1} → statement M
+longest-spec =
+    tie.close
+    (tie.spec
+    Inv-loop
+    μ-loop
+    loop-holds
+    ends-at-requires
+    returns
+    sub-n
+    loop-less
+    loop-again
+    returns-2)

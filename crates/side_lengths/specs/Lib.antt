@@ -1,0 +1,2 @@
+-- The lengths of a run, read from the table.
+pub mod Lengths

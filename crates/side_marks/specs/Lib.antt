@@ -1,0 +1,2 @@
+-- The marks of the table of a shape and a fixed text.
+pub mod Marks

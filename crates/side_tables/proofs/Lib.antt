@@ -1,0 +1,2 @@
+-- The laws of the table.
+pub mod Cells
