@@ -371,7 +371,7 @@ fn run_rounds(counts: &[u64], numbers: &mut [u64], rules: &[u64], work: &mut [u8
     ensures { λ r. ⌜ EndedSays (now (counts .entry)) (now (rules .entry)) (now (numbers .entry)) (now (numbers .exit)) r ⌝ }
     ensures { λ _. ⌜ Cleared (now (work .entry)) (now (work .exit)) ⌝ }
 {
-    let n = rules.len() / 3;
+    let n = rules.len() / 3; // the rules of a round
     clear(work);
     let mut k = 0;
     let mut changed = false;
