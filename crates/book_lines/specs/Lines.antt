@@ -1,0 +1,58 @@
+-- What the inner functions of reading a file answer.
+use mathlib.Core.Path.{_≡_}
+use mathlib.Core.List.{List}
+use Prim.Native.Nat.{ℕ, _≤_, _<_}
+use lib.ListN.{length, getD, take}
+use Rattle.numerals.specs.declared.Number.{Number}
+use Rattle.numerals.specs.declared.Number.the-variants.{Is as is, Not as none}
+use Rattle.shapes.specs.All.{All}
+use Rattle.shapes.specs.Lent.{meant}
+use Rattle.book_lines.specs.declared.Found.{Found}
+use Rattle.book_lines.specs.declared.Found.the-variants.{At, Nothing}
+use Rattle.book_lines.specs.declared.Two.{Two}
+use Rattle.book_lines.specs.declared.Two.the-variants.{Is as two, Not as no-two}
+use Rattle.book_lines.specs.declared.Triple.{Triple}
+use Rattle.book_lines.specs.declared.Triple.the-variants.{Is as triple, Not as no-triple}
+use Rattle.book_lines.specs.declared.BlockLine.{BlockLine}
+use Rattle.book_lines.specs.declared.BlockLine.the-variants.{Is as block, Not as no-block}
+use Rattle.book_lines.specs.Book.{Rule, Small, RightBlock, RightRule, twoNumbers, blockLine, ruleLine, headLine}
+
+-- no byte of t is b
+abbrev pub Without : ℕ → List ℕ → Type 0
+Without b t = All (λ (c : ℕ). c ≡ b → ⊥) t
+
+-- b stands first at place i
+pub record First (b : ℕ) (t : List ℕ) (i : ℕ) : Type 0 where
+  pub within : i < length t
+  pub there : getD t i 0 ≡ b
+  pub before : Without b (take i t)
+
+abbrev pub FoundIn : ℕ → List ℕ → Found → Type 0
+FoundIn b t (At i) = First b t i
+FoundIn b t Nothing = Without b t
+
+-- t is what `text` makes of x, and x is right
+abbrev pub Says : {X : Type 0} → (X → Type 0) → (X → List ℕ) → List ℕ → X → Type 0
+Says Right text t x = Right x × (t ≡ text x)
+
+abbrev pub SaysNone : {X : Type 0} → (X → Type 0) → (X → List ℕ) → List ℕ → Type 0
+SaysNone {X} Right text t = (x : X) → Right x → t ≡ text x → ⊥
+
+abbrev pub HeadRead : List ℕ → ℕ → List ℕ → Number → Type 0
+HeadRead word most t (is n) = Says (λ (m : ℕ). m ≤ most) (headLine word) t n
+HeadRead word most t none = SaysNone (λ (m : ℕ). m ≤ most) (headLine word) t
+
+abbrev pub TwoRead : List ℕ → Two → Type 0
+TwoRead t (two a b) = Small a × Small b × (t ≡ twoNumbers a b)
+TwoRead t no-two = (a b : ℕ) → Small a → Small b → t ≡ twoNumbers a b → ⊥
+
+abbrev pub ruleOf : ℕ → ℕ → ℕ → Rule
+ruleOf k a b = record { kind = k; first = a; second = b }
+
+abbrev pub TripleRead : List ℕ → Triple → Type 0
+TripleRead t (triple k a b) = Says RightRule ruleLine t (ruleOf k a b)
+TripleRead t no-triple = SaysNone RightRule ruleLine t
+
+abbrev pub BlockRead : List ℕ → BlockLine → Type 0
+BlockRead t (block w) = Says RightBlock blockLine t (meant w)
+BlockRead t no-block = SaysNone RightBlock blockLine t

@@ -1,0 +1,3 @@
+-- Numbers as text, and what the functions that read and write them answer.
+pub mod Digits
+pub mod Read

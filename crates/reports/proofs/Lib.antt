@@ -1,0 +1,5 @@
+-- The laws of reports that other crates cite.
+pub mod Put
+pub mod Example
+pub mod Ready
+pub mod Short

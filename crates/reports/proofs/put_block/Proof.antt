@@ -1,0 +1,64 @@
+-- `reports::put_block`: the two words of the base, the two counts and the newline. Assumes nothing.
+use mathlib.Core.List.{_++_}
+use Prim.Native.Nat.{_+_}
+use native.Mathlib.Omega.{arith}
+use Rattle.numerals.specs.Digits.{digits}
+use Rattle.numerals.proofs.Digits.{digits-length}
+use Rattle.reports.specs.Put.{pairEnd}
+use Rattle.reports.proofs.Put.{put-of, put-then, put-as, pair-five, block-text}
+use borrow.Author.Needs.{needs}
+use Rattle.reports.proofs.put_block.Statement.{statement}
+use Rattle.reports.proofs.put_block.Tie as tie
+
+put-digits-requires : tie.Need-put-digits-requires
+put-digits-requires c κs = search needs
+
+add-put-digits : tie.Need-add-put-digits
+add-put-digits c = search needs
+
+put-digits-requires-2 : tie.Need-put-digits-requires-2
+put-digits-requires-2 c κs = search needs
+
+add-put-pair : tie.Need-add-put-pair
+add-put-pair c = search needs
+
+put-pair-requires : tie.Need-put-pair-requires
+put-pair-requires c κs =
+    let k = c .before .before .before .before .before .before .before .put-digits .kept .1 .1 .1 .0 in
+    let m = c .before .before .before .put-digits2 .kept .1 .1 .1 .0 in
+    let room = c .before .before .before .before .before .before .before .before .before .before .pre .0 in
+    let right = c .before .before .before .before .before .before .before .before .before .before .pre .1 in
+    let l = pair-five (c .before .before .before .before .before .before .before .before .before .before .args .w .lower) (c .before .before .before .before .before .before .before .before .before .before .args .w .upper) (right .lower) (right .upper) in
+    omega arith
+
+same-length : tie.Need-same-length
+same-length c = search needs
+
+returns : tie.Need-returns
+returns c =
+    let a = c .before .before .before .before .before .before .before .before .before .before .before .before .before .args in
+    let one = c .before .before .before .before .before .before .before .before .before .before .put-digits in
+    let two = c .before .before .before .before .before .before .put-digits2 in
+    let three = c .before .before .put-pair in
+    let right = c .before .before .before .before .before .before .before .before .before .before .before .before .before .pre .1 in
+    let h = digits-length 16 16 (a .w .high) in
+    let g = digits-length 16 16 (a .w .low) in
+    let first = put-of (a .out .now) (a .at) (digits 16 16 (a .w .high)) (one .last .1 .1 .1 .0) (a .at + 16) (omega arith) (one .ensures) in
+    let second = put-of (one .last .1 .1 .1 .0) (a .at + 16) (digits 16 16 (a .w .low)) (two .last .1 .1 .1 .0) (a .at + 32) (omega arith) (two .ensures) in
+    let both = put-then (a .out .now) (a .at) (digits 16 16 (a .w .high)) (one .last .1 .1 .1 .0) (a .at + 16) (digits 16 16 (a .w .low)) (two .last .1 .1 .1 .0) (a .at + 32) first second in
+    let all = put-then (a .out .now) (a .at) (digits 16 16 (a .w .high) ++ digits 16 16 (a .w .low)) (two .last .1 .1 .1 .0) (a .at + 32) (pairEnd (a .w .lower) (a .w .upper)) (three .last .1 .1 .0) (three .result) both (three .ensures) in
+    let l = pair-five (a .w .lower) (a .w .upper) (right .lower) (right .upper) in
+    let p = three .ensures .place in
+    (put-as _ _ _ _ _ _ (block-text (a .w .low) (a .w .high) (a .w .lower) (a .w .upper) (omega arith)) all, omega arith)
+
+pub put-block-spec : {M : Type 1} → statement M
+put-block-spec =
+    tie.close
+    (tie.spec
+    put-digits-requires
+    add-put-digits
+    put-digits-requires-2
+    add-put-pair
+    put-pair-requires
+    same-length
+    returns)

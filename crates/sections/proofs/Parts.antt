@@ -1,0 +1,117 @@
+-- A line at the start of bytes, and lines one after another. Assumes nothing.
+use mathlib.Core.Path.{_≡_, refl, sym, ap, _∙_, subst}
+use mathlib.Core.List.{List, [], _∷_, _++_, map, append-assoc}
+use Prim.Native.Nat.{ℕ, suc, _+_, _-_, _*_, _≤_, _<_}
+use native.Mathlib.Omega.{arith}
+use lib.ListN.{length, take, drop, length-append, length-drop}
+use lib.Seq.{sets, sets-eq, length-sets, take-at, drop-at, drop-drop, length-take-le}
+use Rattle.shapes.specs.All.All.{none, more}
+use Rattle.shapes.proofs.All.{all-append}
+use Rattle.shapes.specs.Shape.{Block}
+use Rattle.shapes.specs.Lent.{shapeOf, blockOf}
+use Rattle.book_lines.specs.Book.{Rule, joined}
+use Rattle.book_lines.specs.Lines.{Without, First, Says, SaysNone, ruleOf}
+use Rattle.book_lines.proofs.Joined.{joined-append, map-more}
+use Rattle.book_lines.proofs.Split.{first-split, first-parts, none-parts}
+use Rattle.sections.specs.Steps.{State, Path, DepartsFrom}
+use Rattle.sections.specs.Parts.{rulesOf, LineIs, LineIsNone, LinesAre}
+use Rattle.sections.proofs.Steps.{Kind, items-path}
+
+module _ {X : Type 0} (Right : X → Type 0) (text : X → List ℕ) (bytes : List ℕ) where
+  -- the first line says x
+  pub line-is : (i : ℕ) (x : X) → First 10 bytes i → Says Right text (take i bytes) x → LineIs Right text bytes x (i + 1)
+  line-is i x f s =
+      record { right = s .0; within = let h = f .within in omega arith; split = first-split 10 bytes i f ∙ ap (λ (t : List ℕ). t ++ 10 ∷ drop (i + 1) bytes) (s .1) }
+
+  -- the first line says nothing right
+  pub line-none : ((x : X) → Right x → Without 10 (text x)) → (i : ℕ) → First 10 bytes i → SaysNone Right text (take i bytes) → LineIsNone Right text bytes
+  line-none w i f s x after h e = s x h (first-parts 10 bytes i (text x) after f (w x h) e .0)
+
+  -- there is no newline
+  pub line-missing : Without 10 bytes → LineIsNone Right text bytes
+  line-missing w x after h e = none-parts 10 bytes (text x) after w e
+
+  -- ---- lines one after another
+
+  pub lines-none : LinesAre Right text bytes [] 0 0
+  unfolding joined
+  lines-none = record { count = refl; right = none; within = omega arith; split = refl }
+
+joined-more : (ls : List (List ℕ)) (l rest : List ℕ) → joined (ls ++ l ∷ []) ++ rest ≡ joined ls ++ (l ++ 10 ∷ rest)
+unfolding joined
+joined-more ls l rest =
+    ap (λ (t : List ℕ). t ++ rest) (joined-append ls (l ∷ [])) ∙ append-assoc (joined ls) (l ++ 10 ∷ []) rest ∙ ap (λ (t : List ℕ). joined ls ++ t) (append-assoc l (10 ∷ []) rest)
+
+module _ {X : Type 0} {Right : X → Type 0} {text : X → List ℕ} where
+  pub lines-more : (bytes : List ℕ) (xs ys : List X) (x : X) (i m k : ℕ) → LinesAre Right text bytes xs i m → LineIs Right text (drop m bytes) x k → ys ≡ xs ++ x ∷ []
+      → LinesAre Right text bytes ys (i + 1) (m + k)
+  lines-more bytes xs ys x i m k p q e =
+      subst (λ (zs : List X). LinesAre Right text bytes zs (i + 1) (m + k)) (sym e)
+      (record {
+        count = length-append xs (x ∷ []) ∙ ap (λ (n : ℕ). n + 1) (p .count);
+        right = all-append (p .right) (more (q .right) none);
+        within = let h = p .within in let g = q .within in let l = length-drop m bytes in omega arith;
+        split = p .split ∙ ap (λ (t : List ℕ). joined (map text xs) ++ t) (q .split ∙ ap (λ (t : List ℕ). text x ++ 10 ∷ t) (drop-drop k m bytes))
+            ∙ sym (joined-more (map text xs) (text x) (drop (m + k) bytes)) ∙ ap (λ (ls : List (List ℕ)). joined ls ++ drop (m + k) bytes) (sym (map-more text xs x));
+      })
+
+  -- the next line departs
+  pub lines-stop : {section : ℕ → State} → Kind Right text section → (bytes : List ℕ) (xs : List X) (n i m : ℕ) → LinesAre Right text bytes xs i m → i < n → LineIsNone Right text (drop m bytes)
+      → DepartsFrom (section n) bytes i
+  lines-stop {section} kind bytes xs n i m p h s =
+      let j : ℕ = n - suc i in
+      let all : length xs + suc j ≡ n = let e = p .count in omega arith in
+      record {
+        lines = map text xs;
+        state = section (suc j);
+        rest = drop m bytes;
+        path = subst (λ (k : ℕ). Path (section k) (map text xs) (section (suc j))) all (items-path kind xs (suc j) (p .right));
+        count = length-mapped xs ∙ p .count;
+        split = p .split;
+        stuck = record {
+          no-line = λ l after t e g. let x = kind .taken j l t g in s (x .0) after (x .1) (e ∙ ap (λ (y : List ℕ). y ++ 10 ∷ after) (x .2));
+          no-end = λ e g. kind .ends j g;
+        };
+      }
+    where
+      length-mapped : (xs : List X) → length (map text xs) ≡ length xs
+      length-mapped [] = refl
+      length-mapped (x ∷ xs) = ap suc (length-mapped xs)
+
+-- ---- stores into the output
+
+-- numbers stored past what was read: those read so far and those still as found
+pub record Stored (out out₀ : List ℕ) (at : ℕ) : Type 0 where
+  pub long : length out ≡ length out₀
+  pub stays : drop at out ≡ drop at out₀
+
+pub stored-none : (out : List ℕ) (at : ℕ) → Stored out out at
+stored-none out at = record { long = refl; stays = refl }
+
+pub stored-more : (out out₀ vs new : List ℕ) (at next : ℕ) → next ≡ at + length vs → next ≤ length out → new ≡ sets out at vs → Stored out out₀ at
+    → Stored new out₀ next × (take next new ≡ take at out ++ vs)
+stored-more out out₀ vs new at next n h e s =
+    let whole : new ≡ take at out ++ vs ++ drop (at + length vs) out = e ∙ sets-eq vs out at (omega arith) in
+    let front : length (take at out ++ vs) ≡ next = length-append (take at out) vs ∙ ap (λ (k : ℕ). k + length vs) (length-take-le at out (omega arith)) ∙ sym n in
+    let parts : (l : List ℕ) → drop next l ≡ drop (length vs) (drop at l) = λ l. ap (λ (k : ℕ). drop k l) n ∙ sym (drop-drop (length vs) at l) in (
+      record {
+        long = ap length e ∙ length-sets out at vs ∙ s .long;
+        stays = ap (drop next) whole ∙ drop-at (take at out ++ vs) (drop (at + length vs) out) next front ∙ sym (drop-drop (length vs) at out) ∙ ap (drop (length vs)) (s .stays) ∙ sym (parts out₀);
+      },
+      ap (take next) whole ∙ take-at (take at out ++ vs) (drop (at + length vs) out) next front,
+    )
+
+pub shape-more : (xs : List ℕ) (i a b c d : ℕ) → length xs ≡ i * 4 → shapeOf (xs ++ a ∷ b ∷ c ∷ d ∷ []) ≡ shapeOf xs ++ blockOf a b c d ∷ []
+unfolding shapeOf
+shape-more [] i a b c d h = refl
+shape-more (x ∷ []) i a b c d h = absurd (omega arith)
+shape-more (x ∷ (y ∷ [])) i a b c d h = absurd (omega arith)
+shape-more (x ∷ (y ∷ (z ∷ []))) i a b c d h = absurd (omega arith)
+shape-more (x ∷ (y ∷ (z ∷ (w ∷ xs)))) i a b c d h = ap (λ (s : List Block). blockOf x y z w ∷ s) (shape-more xs (i - 1) a b c d (omega arith))
+
+pub rules-more : (xs : List ℕ) (i k a b : ℕ) → length xs ≡ i * 3 → rulesOf (xs ++ k ∷ a ∷ b ∷ []) ≡ rulesOf xs ++ ruleOf k a b ∷ []
+unfolding rulesOf
+rules-more [] i k a b h = refl
+rules-more (x ∷ []) i k a b h = absurd (omega arith)
+rules-more (x ∷ (y ∷ [])) i k a b h = absurd (omega arith)
+rules-more (x ∷ (y ∷ (z ∷ xs))) i k a b h = ap (λ (s : List Rule). ruleOf x y z ∷ s) (rules-more xs (i - 1) k a b (omega arith))
