@@ -11,6 +11,7 @@ use Rattle.answers.specs.declared.Written.{Written}
 use Rattle.books.specs.Walk.{RunPromise}
 use Rattle.extremes.specs.declared.Direction.the-variants.{Least, Greatest}
 use Rattle.extremes.specs.Extreme.{ExtremePromise}
+use Rattle.file_runs.specs.Promise.{FilePromise}
 use Rattle.fitting.specs.Fit.{FitPromise}
 use Rattle.pair_calls.specs.Sweep.{SweepPromise}
 use Rattle.pairs.specs.Narrow.{NarrowPromise}
@@ -55,3 +56,7 @@ NarrowBefore xs ys work ox oy work′ ox′ oy′ r = NarrowPromise Before xs ys
 -- running a book: lent the texts' block counts, all blocks, the rules and work; with ′ blocks and work as handed back
 abbrev pub RunBook : List ℕ → List ℕ → List ℕ → List ℕ → List ℕ → List ℕ → Ran → Type 0
 RunBook counts blocks rules work blocks′ work′ r = RunPromise counts blocks rules work blocks′ work′ r
+
+-- running a book file: the report of how the file ends, at the start of the output
+abbrev pub RunFile : List ℕ → List ℕ → List ℕ → Written → Type 0
+RunFile file report report′ r = FilePromise file report report′ r

@@ -6,7 +6,7 @@ use answers::Narrowed;
 use answers::Ran;
 use answers::Swept;
 use answers::Written;
-ghost use Rattle.dashed.specs.Promises.{CheckShape, FitsShape, Earlier, LeastText, GreatestText, Sweep, NarrowEqual, NarrowAtMost, NarrowBefore, RunBook};
+ghost use Rattle.dashed.specs.Promises.{CheckShape, FitsShape, Earlier, LeastText, GreatestText, Sweep, NarrowEqual, NarrowAtMost, NarrowBefore, RunBook, RunFile};
 
 // Checks a shape, lent as 64-bit numbers, four to a block.
 pub fn check_shape(shape: &[u64]) -> Checked
@@ -100,4 +100,12 @@ pub fn run_book(counts: &[u64], blocks: &mut [u64], rules: &[u64], work: &mut [u
     ensures { λ r. ⌜ RunBook (now (counts .entry)) (now (blocks .entry)) (now (rules .entry)) (now (work .entry)) (now (blocks .exit)) (now (work .exit)) r ⌝ }
 {
     books::run_book(counts, blocks, rules, work)
+}
+
+// Runs a book file, any bytes, to its report, the bytes that the program `narrow` prints, into an output of at least 16,384 bytes; the report's length. A file
+// or a book that is refused is reported so.
+pub fn run_file(file: &[u8], report: &mut [u8]) -> Written
+    ensures { λ r. ⌜ RunFile (now (file .entry)) (now (report .entry)) (now (report .exit)) r ⌝ }
+{
+    file_runs::run_file(file, report)
 }

@@ -1,0 +1,3 @@
+-- The laws of a book file's end.
+pub mod Ends
+pub mod Determined
