@@ -1,21 +1,12 @@
--- For any one input, two permitted outcomes of a book's run are equal: the answer with its count or refusal, and every lent cell. Assumes nothing.
-use mathlib.Core.Path.{_≡_, refl, sym, ap, _∙_}
+-- For any one book, two permitted answers of its check are equal. Assumes nothing.
+use mathlib.Core.Path.{_≡_, refl, ap}
 use mathlib.Core.List.{List}
 use Prim.Native.Nat.{ℕ}
-use native.Mathlib.Omega.{arith}
 use Rattle.answers.proofs.Told.{told-one}
 use Rattle.answers.specs.declared.Checked.{Checked}
 use Rattle.answers.specs.declared.Checked.the-variants.{Sound, Refused as unsound}
-use Rattle.answers.specs.declared.Ran.{Ran}
-use Rattle.answers.specs.declared.Ran.the-variants.{Stable, None, Refused}
-use Rattle.shapes.specs.Shape.{Block}
-use Rattle.shapes.specs.Lent.{wordsOf}
-use Rattle.hulls.specs.Hull.{none, shapes}
 use Rattle.books.specs.Refused.{BookChecked}
-use Rattle.books.specs.Rules.{AllIn}
-use Rattle.books.specs.Walk.{RunStable, RunNone, RunPromise}
 use Rattle.books.proofs.Refused.{book-one, book-not}
-use Rattle.books.proofs.Walk.{walk-one, run-permuted}
 
 pub check-book-determined : (counts blocks rules : List ℕ) (work : ℕ) (a b : Checked)
     → BookChecked counts blocks rules work a → BookChecked counts blocks rules work b → a ≡ b
@@ -23,35 +14,3 @@ check-book-determined counts blocks rules work Sound Sound p q = refl
 check-book-determined counts blocks rules work Sound (unsound r) p q = absurd (book-not q p)
 check-book-determined counts blocks rules work (unsound r) Sound p q = absurd (book-not p q)
 check-book-determined counts blocks rules work (unsound r) (unsound s) p q = ap unsound (told-one r s (book-one p q))
-
--- an outcome is none, or some shapes
-same-shapes : {H J : List Block} → shapes H ≡ shapes J → H ≡ J
-same-shapes e = cc
-
-not-both : {H : List Block} → none ≡ shapes H → ⊥
-not-both e = let z : _≡_ {A = ℕ} 0 1 = cc in omega arith
-
-pub run-determined : (counts blocks rules work b b′ w w′ : List ℕ) (x y : Ran)
-    → RunPromise counts blocks rules work b w x → RunPromise counts blocks rules work b′ w′ y → (x ≡ y) × (b ≡ b′) × (w ≡ w′)
-run-determined counts blocks rules work b b′ w w′ (Stable m) (Stable l) p q =
-    let one = walk-one (p .0 .run) (q .0 .run) in
-    (ap Stable (one .1), p .0 .left ∙ ap wordsOf (same-shapes (one .0)) ∙ sym (q .0 .left), p .1 ∙ sym (q .1))
-run-determined counts blocks rules work b b′ w w′ (Stable m) (None l) p q = absurd (not-both (sym (walk-one (p .0 .run) (q .0 .run) .0)))
-run-determined counts blocks rules work b b′ w w′ (Stable m) (Refused s) p q = absurd (book-not (q .0) (p .0 .accepted))
-run-determined counts blocks rules work b b′ w w′ (None m) (Stable l) p q = absurd (not-both (walk-one (p .0 .run) (q .0 .run) .0))
-run-determined counts blocks rules work b b′ w w′ (None m) (None l) p q =
-    (ap None (walk-one (p .0 .run) (q .0 .run) .1), p .0 .left ∙ sym (q .0 .left), p .1 ∙ sym (q .1))
-run-determined counts blocks rules work b b′ w w′ (None m) (Refused s) p q = absurd (book-not (q .0) (p .0 .accepted))
-run-determined counts blocks rules work b b′ w w′ (Refused r) (Stable l) p q = absurd (book-not (p .0) (q .0 .accepted))
-run-determined counts blocks rules work b b′ w w′ (Refused r) (None l) p q = absurd (book-not (p .0) (q .0 .accepted))
-run-determined counts blocks rules work b b′ w w′ (Refused r) (Refused s) p q =
-    (ap Refused (told-one r s (book-one (p .0) (q .0))), p .1 ∙ sym (q .1), p .2 ∙ sym (q .2))
-
--- ---- an accepted book with its rules in another order: the same verdict and the same final shapes, with whatever count
-
-module _ {counts blocks rules others work b b′ : List ℕ} {m l : ℕ} (to : AllIn rules others) (from : AllIn others rules) where
-  pub permuted-left : RunStable counts blocks rules work b m → RunStable counts blocks others work b′ l → b ≡ b′
-  permuted-left p q = p .left ∙ ap wordsOf (same-shapes (run-permuted counts blocks rules others to from (p .run) (q .run))) ∙ sym (q .left)
-
-  pub permuted-verdict : RunStable counts blocks rules work b m → RunNone counts blocks others work b′ l → ⊥
-  permuted-verdict p q = not-both (sym (run-permuted counts blocks rules others to from (p .run) (q .run)))

@@ -1,8 +1,5 @@
--- What a book of rules is, why it is refused, and what its run promises.
+-- What a book of rules is, and why it is refused.
 pub mod Counts
 pub mod Rules
 pub mod Refused
-pub mod Walk
-pub mod Room
 pub mod Code
-pub mod Runner

@@ -99,7 +99,7 @@ pub fn narrow_before(
 pub fn run_book(counts: &[u64], blocks: &mut [u64], rules: &[u64], work: &mut [u8]) -> Ran
     ensures { λ r. ⌜ RunBook (now (counts .entry)) (now (blocks .entry)) (now (rules .entry)) (now (work .entry)) (now (blocks .exit)) (now (work .exit)) r ⌝ }
 {
-    books::run_book(counts, blocks, rules, work)
+    book_runs::run_book(counts, blocks, rules, work)
 }
 
 // Runs a book file, any bytes, to its report, the bytes that the program `narrow` prints, into an output of at least 16,384 bytes; the report's length. A file

@@ -14,11 +14,12 @@ use Rattle.answers.specs.Told.{Told}
 use Rattle.hulls.specs.Hull.{Outcome, none, shapes}
 use Rattle.hulls.proofs.Hull.{hull-sound}
 use Rattle.books.specs.Refused.{BookRefused, BookAccepted}
-use Rattle.books.specs.Walk.{Walk, BookRun, RunStable, RunNone}
-use Rattle.books.specs.Walk.Walk.{stops, keeps, changes, round, rests}
-use Rattle.books.proofs.Standing.{standing-first, few-blocks, blocks-sound}
+use Rattle.book_runs.specs.Walk.{Walk, BookRun, RunStable, RunNone}
+use Rattle.book_runs.specs.Walk.Walk.{stops, keeps, changes, round, rests}
+use Rattle.book_runs.proofs.Standing.{standing-first, few-blocks, blocks-sound}
 use Rattle.books.proofs.Refused.{book-one, book-not}
-use Rattle.books.proofs.Walk.{walk-one}
+use Rattle.book_runs.proofs.Walk.{walk-one}
+use Rattle.book_runs.proofs.Determined.{same-shapes, not-none}
 use Rattle.book_lines.specs.Book.{Book, RightBlock}
 use Rattle.sections.specs.Parts.{rulesOf}
 use Rattle.files.specs.declared.Sizes.{Sizes}
@@ -60,12 +61,6 @@ unfolding SoundEnd
 final-sound w a = sound-end w a
 
 -- ---- one end
-
-same-shapes : {H J : List Block} → shapes H ≡ shapes J → H ≡ J
-same-shapes e = cc
-
-not-none : {H : List Block} → none ≡ shapes H → ⊥
-not-none e = let z : _≡_ {A = ℕ} 0 1 = cc in omega arith
 
 pub book-ends-one : {counts blocks rules : List ℕ} {v w : Verdict} → BookEnds counts blocks rules v → BookEnds counts blocks rules w → v ≡ w
 book-ends-one (wrong p) (wrong q) = ap refused (book-one p q)

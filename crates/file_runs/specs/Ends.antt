@@ -6,7 +6,7 @@ use Rattle.shapes.specs.Shape.{Block}
 use Rattle.shapes.specs.Lent.{wordsOf}
 use Rattle.hulls.specs.Hull.{none, shapes}
 use Rattle.books.specs.Refused.{BookRefused, BookAccepted}
-use Rattle.books.specs.Walk.{BookRun}
+use Rattle.book_runs.specs.Walk.{BookRun}
 use Rattle.book_lines.specs.Book.{Rule, Book}
 use Rattle.files.specs.Departs.{FileRefused, FileAccepted}
 use Rattle.reports.specs.Report.{Verdict}

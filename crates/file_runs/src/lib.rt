@@ -24,7 +24,7 @@ fn report_book(counts: &[u64], blocks: &mut [u64], rules: &[u64], report: &mut [
     ensures { λ _. ⌜ All (λ x. x < 2 ^ 64) (now (blocks .entry)) ⌝ }
 {
     let mut work = new_work();
-    match books::run_book(counts, blocks, rules, &mut work) {
+    match book_runs::run_book(counts, blocks, rules, &mut work) {
         Ran::Refused(r) => reports::write_refused(r, report),
         Ran::None(m) => reports::write_none(m, report),
         Ran::Stable(m) => reports::write_stable(counts, blocks, m, report),

@@ -1,3 +1,2 @@
--- Narrowing under equality as a function that computes, and worked examples.
+-- Narrowing under equality as a function that computes.
 pub mod Equal
-pub mod Rows

@@ -1,5 +1,4 @@
 -- The laws of the quick sweep.
-pub mod Table
 pub mod Share
 pub mod Views
 pub mod Looks

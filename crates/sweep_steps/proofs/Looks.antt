@@ -19,10 +19,11 @@ use Rattle.sweep_steps.specs.declared.PushLook.{PushLook}
 use Rattle.sweep_steps.specs.declared.StretchLook.{StretchLook}
 use Rattle.sweep_steps.proofs.Views.{by-zero}
 
--- a walk from block i along some blocks: where it ends, and with how many looks
+-- a walk from block i along some blocks: where it ends, and with how many looks; each block passed is looked at, and at most one more
 pub record Walked (i len : ℕ) (end : Place) (looks : ℕ) : Type 0 where
   pub onward : i ≤ numberOf end
   pub upto : numberOf end ≤ i + len
+  pub passed : numberOf end ≤ looks + i
   pub counted : looks + i ≤ numberOf end + 1
 
 pub pushing-walked : (s : Block) (k : ℕ) (start : Place) (i o : ℕ) (ts : List Block)

@@ -2,28 +2,23 @@
 use mathlib.Core.Path.{_≡_, refl, sym, ap, _∙_, subst}
 use mathlib.Core.Bool.{Bool, true, false}
 use mathlib.Core.List.{List, [], _∷_}
-use mathlib.Core.Logic.{⊎-elim}
-use Prim.Native.Nat.{ℕ, zero, suc, _+_, _-_, _≤_, _<_, _^_}
+use Prim.Native.Nat.{ℕ, zero, suc, _+_, _-_, _≤_, _<_}
 use native.Mathlib.Omega.{arith}
 use lib.Dec.{eqb}
 use lib.ListN.{length, getD, take, length-append, List·getD-append}
 use lib.Seq.{getD-append-add}
-use Rattle.bases.specs.Base.{Holds, Meets}
-use Rattle.bases.proofs.Plain.{lt-or-le}
+use Rattle.bases.specs.Base.{Holds}
 use Rattle.shapes.specs.All.{All, none, more}
 use Rattle.shapes.specs.Shape.{Block, Filling, done, fill, textOf}
-use Rattle.sweep_steps.specs.Share.{pick, sharesWithin, shares}
-use Rattle.sweep_steps.specs.Places.{at, isStart, before, later, forward}
-use Rattle.sweep_steps.specs.Steps.{pushLook, pushing, push, stretchLook, stretching, stretch, stretches, pushes}
+use Rattle.sweep_steps.specs.Share.{pick}
+use Rattle.sweep_steps.specs.Places.{at, isStart, later}
+use Rattle.sweep_steps.specs.Steps.{push, stretches, pushes}
 use Rattle.sweep_steps.specs.Steps.{Held, Behind, Found, places, cannot, found, looked, pushNext, firstPlace, sweepOf}
 use Rattle.sweep_steps.specs.Names.{startOf, AtOrBefore, Latest}
-use Rattle.sweep_steps.specs.Table.{slipX, slipY, Slip}
 use Rattle.sweep_steps.specs.declared.Place.{Place}
 use Rattle.sweep_steps.specs.declared.Pushed.{Pushed}
-use Rattle.sweep_steps.proofs.Share.{shares-tells}
 use Rattle.sweep_steps.proofs.Looks.{stretches-counted}
 use Rattle.sweep_steps.proofs.Laid.{Laid, sum, stand, laid-length}
-use Rattle.sweep_steps.proofs.Pushing.{clash}
 use Rattle.sweep_steps.proofs.Sound.{Starts, Right, right, sweep-right}
 use Rattle.sweep_steps.proofs.Named.{lengths, lengths-sum, lengths-take, stand-latest}
 
@@ -134,19 +129,3 @@ places-many x y qs k e = go (isStart (firstPlace (s .held))) (pushes y (s .held)
     go true (places ps l) b a = let z : qs ≡ ps = cc in ap length z ∙ places-held y (s .held) (at 1 0) ps l b ∙ stretches-counted x y .many
     go true (cannot l) b a = absurd (let z : _≡_ {A = ℕ} 0 1 = cc in omega arith)
     go false u b a = absurd (let z : _≡_ {A = ℕ} 0 1 = cc in omega arith)
-
--- ---- places are no common text: a0..1 b1..1 a0..1 in b0..1 a2..2 b0..1
-
-apart : Meets (2 ^ 98) (2 ^ 97) → ⊥
-unfolding shares sharesWithin
-apart = shares-tells (2 ^ 98) (2 ^ 97) .not-so refl
-
-no-slip : {c : ℕ → ℕ} {fs gs : List ℕ} → Laid c 0 slipX fs → Laid c 0 slipY gs → sum fs ≡ sum gs → ⊥
-unfolding sum
-no-slip (Laid.next {n = m} a0 a1 as1 (Laid.next b0 b1 bs (Laid.next d0 d1 ds Laid.done))) (Laid.next {n = n} e0 e1 es (Laid.next f0 f1 fs (Laid.next g0 g1 gs Laid.done))) h =
-    ⊎-elim (λ early. omega arith)
-    (λ late. clash bs fs apart (0 + m) (omega arith) (omega arith) (omega arith) (omega arith)) (lt-or-le m n)
-
-pub slip : Slip
-unfolding sharesWithin shares before later forward pushLook pushing push stretchLook stretching stretch stretches pushes sweepOf
-slip = record { found = refl; none = λ f g fx gy same. no-slip (laid-x slipX slipY f g fx gy same) (laid-y slipX slipY f g fx gy same) (as-long slipX slipY f g fx gy same) }

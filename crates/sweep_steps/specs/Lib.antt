@@ -3,4 +3,3 @@ pub mod Share
 pub mod Places
 pub mod Steps
 pub mod Names
-pub mod Table

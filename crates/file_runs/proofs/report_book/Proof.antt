@@ -7,7 +7,7 @@ use Rattle.shapes.specs.All.{All}
 use Rattle.shapes.proofs.All.{all-of}
 use Rattle.answers.specs.declared.Ran.{Ran}
 use Rattle.answers.specs.declared.Ran.the-variants.{Stable, None, Refused}
-use Rattle.books.specs.Walk.{RunPromise, RunStable}
+use Rattle.book_runs.specs.Walk.{RunPromise, RunStable}
 use Rattle.file_runs.proofs.Ends.{ends-refused, ends-none, ends-stable, final-right, few-numbers}
 use borrow.Author.Needs.{needs}
 use Rattle.file_runs.proofs.report_book.Statement.{statement}

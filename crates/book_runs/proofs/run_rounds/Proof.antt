@@ -1,0 +1,215 @@
+-- `book_runs::run_rounds`: at the head of a turn the runner stands before rule k with what it has made so far. Assumes nothing.
+use mathlib.Core.Path.{_≡_, refl, sym, ap, _∙_, subst}
+use mathlib.Core.Bool.{Bool, true, false}
+use mathlib.Core.List.{List}
+use Prim.Native.Nat.{ℕ, _+_, _-_, _*_, _/_, _^_, _≤_, _<_}
+use native.Mathlib.Omega.{arith}
+use borrow.Author.Needs.{needs}
+use borrow.Author.Tests.{not-true, not-false}
+use lib.ListN.{length}
+use Rattle.shapes.specs.All.{All}
+use Rattle.shapes.specs.Shape.{Small}
+use Rattle.shapes.specs.Lent.{shapeOf}
+use Rattle.book_runs.specs.Room.{roomOf}
+use Rattle.books.specs.Rules.{ruleCount, ruleOf}
+use Rattle.book_runs.specs.Code.{Standing, owed, Made}
+use Rattle.book_runs.specs.Runner.{AppliedSays}
+use Rattle.hulls.proofs.Hull.{hull-within}
+use Rattle.shapes.proofs.All.{all-of}
+use Rattle.shapes.proofs.Lent.{small-bases}
+use Rattle.book_runs.proofs.Falls.{within-small}
+use Rattle.book_runs.proofs.Standing.{few-blocks, blocks-size, blocks-sound, standing-next}
+use Rattle.book_runs.proofs.Made.{made-start, made-most, made-none, made-same, made-changed, made-round, made-stable, made-count, cleared-stays}
+use Rattle.book_runs.proofs.run_rounds.Statement.{statement}
+use Rattle.book_runs.proofs.run_rounds.Tie as tie
+use Rattle.book_runs.proofs.run_rounds.Reads as reads
+use Rattle.book_runs.proofs.run_rounds.Lts as lts
+use Rattle.book_runs.proofs.apply_rule.Reads as apply-rule-reads
+use Rattle.equals.proofs.clear.Reads as clear-reads
+
+abbrev Inv-loop : tie.InvT-loop
+Inv-loop counts numbers₀ rules work₀ n k₀ changed₀ made₀ numbers work k changed made =
+    (n ≡ length rules / 3) × (k ≤ n) × (length numbers ≡ length numbers₀) × Standing counts numbers × All Small (shapeOf numbers)
+    × Made (length rules / 3) (ruleOf counts rules) (shapeOf numbers₀) (shapeOf numbers) k changed made
+    × (work ≡ work₀)
+
+abbrev μ-loop : tie.MeasureT-loop
+μ-loop counts numbers₀ rules work₀ n k₀ changed₀ made₀ numbers work k changed made = 2 * (length rules / 3 * roomOf (shapeOf numbers₀) + length rules / 3 + 1 - made) + owed changed 1
+
+clear-requires : tie.Need-clear-requires Inv-loop μ-loop
+clear-requires c κs = c .before .before .before .before .before .pre .room
+
+loop-holds : tie.Need-loop-holds Inv-loop μ-loop
+loop-holds c =
+    let s = c .before .before .before .before .before .before .before .before in
+    let xs = s .args .numbers .now in (
+      refl,
+      omega arith,
+      refl,
+      s .pre .standing,
+      small-bases xs (all-of xs 0 (λ i h. c .before .before .before .before .before .before .slice-known .given i .fits)),
+      made-start,
+      refl,
+    )
+
+same-length : tie.Need-same-length Inv-loop μ-loop
+same-length c = c .before .before .loop .inv .2
+
+same-length-2 : tie.Need-same-length-2 Inv-loop μ-loop
+same-length-2 c = ap length (c .before .before .loop .inv .6) ∙ c .before .before .before .before .before .clear .kept .0
+
+returns : tie.Need-returns Inv-loop μ-loop
+returns c =
+    let l = c .before .before .loop in
+    (made-stable (l .inv .5) (c .before .if1 .taken) (not-true _ (c .if2 .taken)), l .inv .6 ∙ c .before .before .before .before .before .clear .ensures)
+
+loop-less : tie.Need-loop-less Inv-loop μ-loop
+loop-less c =
+    let moved : c .before .before .loop .changed ≡ true = not-false _ (c .if2 .left) in
+    let bit : owed (c .before .before .loop .changed) 1 ≡ 1 = ap (λ (x : Bool). owed x 1) moved in
+    omega arith
+
+loop-again : tie.Need-loop-again Inv-loop μ-loop
+loop-again c =
+    let l = c .before .before .loop in
+    (refl, omega arith, l .inv .2, l .inv .3, l .inv .4, made-round (l .inv .5) (c .before .if1 .taken) (not-false _ (c .if2 .left)), l .inv .6)
+
+apply-rule-requires : tie.Need-apply-rule-requires Inv-loop μ-loop
+apply-rule-requires c κs =
+    let l = c .before .before .before .loop in
+    let p = c .before .before .before .before .before .before .before .before .before .before .before .before .pre in (
+      record {
+        each = p .each;
+        few-texts = p .few-texts;
+        few-rules = p .few-rules;
+        right = p .right;
+        standing = l .inv .3;
+        room = let size = ap length (l .inv .6) ∙ c .before .before .before .before .before .before .clear .kept .0 in let h = p .room in omega arith;
+      },
+      (let other = c .before .before .if1 .left in omega arith),
+    )
+
+enum-told : tie.Need-enum-told Inv-loop μ-loop
+enum-told c = search needs
+
+-- in a turn that applies a rule there is one
+within : (c : tie.After-apply-rule Inv-loop μ-loop) → c .before .before .before .before .loop .k < length (c .before .before .before .before .before .before .before .before .before .before .before .before .before .args .rules .now) / 3
+within c = let other = c .before .before .before .if1 .left in let h = c .before .before .before .before .loop .inv .0 in let g = c .before .before .before .before .loop .inv .1 in omega arith
+
+-- and the count is small
+count : (c : tie.After-apply-rule Inv-loop μ-loop) → c .before .before .before .before .loop .made ≤ 1548304
+count c =
+    let l = c .before .before .before .before .loop in
+    let p = c .before .before .before .before .before .before .before .before .before .before .before .before .before .pre in
+    let size = blocks-size (p .standing) in
+    let few = few-blocks (c .before .before .before .before .before .before .before .before .before .before .before .before .before .args .counts .now) (p .each) (p .few-texts) in
+    made-count (l .inv .5) (let h = within c in omega arith) (p .few-rules) (omega arith) (blocks-sound (p .standing))
+
+add-t20 : tie.Need-add-t20 Inv-loop μ-loop
+add-t20 c = let h = count (c .before .before .before .before .before .before) in omega arith
+
+same-length-3 : tie.Need-same-length-3 Inv-loop μ-loop
+same-length-3 c = c .before .before .before .before .before .before .apply-rule .kept .1 .0 ∙ c .before .before .before .before .before .before .before .before .before .before .loop .inv .2
+
+-- the work buffer is as it was cleared at the start
+work-same : (c : tie.After-apply-rule Inv-loop μ-loop) → c .apply-rule .last .1 .1 .1 .1 .0 ≡ c .before .before .before .before .before .before .before .clear .last .0
+work-same c =
+    let l = c .before .before .before .before .loop in
+    let before : c .before .before .before .before .before .before .before .clear .last .0 ≡ l .work = sym (l .inv .6) in
+    cleared-stays 63001 (c .before .before .before .before .before .before .before .before .before .before .before .before .before .args .work .now) _ _ (sym before ∙ c .before .before .before .before .before .before .before .clear .ensures) (c .apply-rule .ensures .1) ∙ l .inv .6
+
+same-length-4 : tie.Need-same-length-4 Inv-loop μ-loop
+same-length-4 c = ap length (work-same (c .before .before .before .before .before .before)) ∙ c .before .before .before .before .before .before .before .before .before .before .before .before .before .clear .kept .0
+
+returns-2 : tie.Need-returns-2 Inv-loop μ-loop
+returns-2 c =
+    let l = c .before .before .before .before .before .before .before .before .before .before .loop in
+    let r = c .before .before .before .before .before .before .apply-rule in
+    let says = subst (AppliedSays _ _ (l .k) (l .numbers) (r .last .1 .0)) (c .enum-told .given .1) (r .ensures .0) in
+    (made-none (l .inv .5) (within (c .before .before .before .before .before .before)) says, work-same (c .before .before .before .before .before .before) ∙ c .before .before .before .before .before .before .before .before .before .before .before .before .before .clear .ensures)
+
+enum-told-2 : tie.Need-enum-told-2 Inv-loop μ-loop
+enum-told-2 c = search needs
+
+add-k : tie.Need-add-k Inv-loop μ-loop
+add-k c = let h = within (c .before .before .before .before .before .before) in omega arith
+
+add-made : tie.Need-add-made Inv-loop μ-loop
+add-made c = let h = count (c .before .before .before .before .before .before) in omega arith
+
+loop-less-2 : tie.Need-loop-less-2 Inv-loop μ-loop
+loop-less-2 c = let h = made-most (c .before .before .before .before .before .before .before .before .before .before .loop .inv .5) (let w = within (c .before .before .before .before .before .before) in omega arith) in omega arith
+
+loop-again-2 : tie.Need-loop-again-2 Inv-loop μ-loop
+loop-again-2 c =
+    let l = c .before .before .before .before .before .before .before .before .before .before .loop in
+    let r = c .before .before .before .before .before .before .apply-rule in
+    let s = c .before .before .before .before .before .before .before .before .before .before .before .before .before .before .before .before .before .before .before in
+    let says = subst (AppliedSays (s .args .counts .now) (s .args .rules .now) (l .k) (l .numbers) (r .last .1 .0)) (c .enum-told2 .given .1) (r .ensures .0) in
+    let small = within (c .before .before .before .before .before .before) in (
+      refl,
+      omega arith,
+      r .kept .1 .0 ∙ l .inv .2,
+      subst (Standing (s .args .counts .now)) (sym (says .1)) (l .inv .3),
+      subst (λ (x : List ℕ). All Small (shapeOf x)) (sym (says .1)) (l .inv .4),
+      subst (λ (x : List ℕ). Made (length (s .args .rules .now) / 3) (ruleOf (s .args .counts .now) (s .args .rules .now)) (shapeOf (s .args .numbers .now)) (shapeOf x) (l .k + 1) (l .changed) (l .made + 1)) (sym (says .1)) (made-same (l .inv .5) small (says .0)),
+      work-same (c .before .before .before .before .before .before),
+    )
+
+enum-told-3 : tie.Need-enum-told-3 Inv-loop μ-loop
+enum-told-3 c = search needs
+
+add-k-2 : tie.Need-add-k-2 Inv-loop μ-loop
+add-k-2 c = let h = within (c .before .before .before .before .before .before) in omega arith
+
+add-made-2 : tie.Need-add-made-2 Inv-loop μ-loop
+add-made-2 c = let h = count (c .before .before .before .before .before .before) in omega arith
+
+loop-less-3 : tie.Need-loop-less-3 Inv-loop μ-loop
+loop-less-3 c = let h = made-most (c .before .before .before .before .before .before .before .before .before .before .loop .inv .5) (let w = within (c .before .before .before .before .before .before) in omega arith) in omega arith
+
+loop-again-3 : tie.Need-loop-again-3 Inv-loop μ-loop
+loop-again-3 c =
+    let l = c .before .before .before .before .before .before .before .before .before .before .loop in
+    let r = c .before .before .before .before .before .before .apply-rule in
+    let s = c .before .before .before .before .before .before .before .before .before .before .before .before .before .before .before .before .before .before .before in
+    let says = subst (AppliedSays (s .args .counts .now) (s .args .rules .now) (l .k) (l .numbers) (r .last .1 .0)) (c .enum-told3 .given .1) (r .ensures .0) in
+    let small = within (c .before .before .before .before .before .before) in (
+      refl,
+      omega arith,
+      r .kept .1 .0 ∙ l .inv .2,
+      standing-next (l .inv .3) (says .0) (r .kept .1 .0),
+      within-small (hull-within (says .0)) (l .inv .4),
+      made-changed (l .inv .5) (blocks-sound (l .inv .3)) (l .inv .4) small (says .0) (says .1),
+      work-same (c .before .before .before .before .before .before),
+    )
+
+pub run-rounds-spec : {M : Type 1} → statement M
+run-rounds-spec =
+    tie.close
+    (tie.spec
+    Inv-loop
+    μ-loop
+    clear-requires
+    loop-holds
+    same-length
+    same-length-2
+    returns
+    loop-less
+    loop-again
+    apply-rule-requires
+    enum-told
+    add-t20
+    same-length-3
+    same-length-4
+    returns-2
+    enum-told-2
+    add-k
+    add-made
+    loop-less-2
+    loop-again-2
+    enum-told-3
+    add-k-2
+    add-made-2
+    loop-less-3
+    loop-again-3)

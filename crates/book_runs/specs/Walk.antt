@@ -1,0 +1,58 @@
+-- Document 01, "A book and its run": the runner, step by step, and what its call promises.
+use mathlib.Core.Path.{_≡_}
+use mathlib.Core.Bool.{Bool, true, false}
+use mathlib.Core.List.{List}
+use Prim.Native.Nat.{ℕ, zero, suc, _<_}
+use lib.ListN.{length}
+use Rattle.answers.specs.Told.{told}
+use Rattle.answers.specs.declared.Ran.{Ran}
+use Rattle.answers.specs.declared.Ran.the-variants.{Stable as is-stable, None as is-none, Refused}
+use Rattle.shapes.specs.Shape.{Block}
+use Rattle.shapes.specs.Lent.{shapeOf, wordsOf}
+use Rattle.pairs.specs.Narrow.{cleared}
+use Rattle.hulls.specs.Hull.{None, Hull, Outcome, none, shapes}
+use Rattle.books.specs.Rules.{ruleCount, ruleOf}
+use Rattle.books.specs.Refused.{BookRefused, BookAccepted}
+
+-- The runner applies the n rules in book order, round after round, each on the blocks so far.
+-- `Walk n P S k c o m`: with the blocks S, before rule k, from 0, of a round that has changed something exactly if c is true,
+-- it goes on to the outcome o and makes m more applications, the last included.
+pub data Walk (n : ℕ) (P : ℕ → List (List ℕ) → Type 0) : List Block → ℕ → Bool → Outcome → ℕ → Type 0 where
+  -- it stops at the first none
+  stops : {S : List Block} {k : ℕ} {c : Bool} → k < n → None (P k) S → Walk n P S k c none (suc zero)
+  -- rule k changes nothing
+  keeps : {S : List Block} {k : ℕ} {c : Bool} {o : Outcome} {m : ℕ} → k < n → Hull (P k) S S → Walk n P S (suc k) c o m → Walk n P S k c o (suc m)
+  -- rule k changes something
+  changes : {S H : List Block} {k : ℕ} {c : Bool} {o : Outcome} {m : ℕ} → k < n → Hull (P k) S H → (H ≡ S → ⊥) → Walk n P H (suc k) true o m
+      → Walk n P S k c o (suc m)
+  -- after a round that changed something comes another
+  round : {S : List Block} {k : ℕ} {o : Outcome} {m : ℕ} → k ≡ n → Walk n P S zero false o m → Walk n P S k true o m
+  -- it stops after the first round that changes nothing
+  rests : {S : List Block} {k : ℕ} → k ≡ n → Walk n P S k false (shapes S) zero
+
+-- The run of a book from its entered shapes, with the count of applications.
+abbrev pub BookRun : List ℕ → List ℕ → List ℕ → Outcome → ℕ → Type 0
+BookRun counts blocks rules o m = Walk (ruleCount rules) (ruleOf counts rules) (shapeOf blocks) 0 false o m
+
+-- Final shapes: they are left in the lent blocks.
+pub record RunStable (counts blocks rules work blocks′ : List ℕ) (m : ℕ) : Type 0 where
+  pub accepted : BookAccepted counts blocks rules (length work)
+  pub final : List Block
+  pub run : BookRun counts blocks rules (shapes final) m
+  pub left : blocks′ ≡ wordsOf final
+
+-- None: the blocks are as on entry.
+pub record RunNone (counts blocks rules work blocks′ : List ℕ) (m : ℕ) : Type 0 where
+  pub accepted : BookAccepted counts blocks rules (length work)
+  pub run : BookRun counts blocks rules none m
+  pub left : blocks′ ≡ blocks
+
+-- "Numbers given back": after an accepted call the first 63,001 bytes of the work buffer are 0 and the rest untouched.
+abbrev pub Cleared : List ℕ → List ℕ → Type 0
+Cleared work work′ = work′ ≡ cleared 63001 work
+
+-- The run of a book: blocks and work before and after the call.
+abbrev pub RunPromise : List ℕ → List ℕ → List ℕ → List ℕ → List ℕ → List ℕ → Ran → Type 0
+RunPromise counts blocks rules work blocks′ work′ (is-stable m) = RunStable counts blocks rules work blocks′ m × Cleared work work′
+RunPromise counts blocks rules work blocks′ work′ (is-none m) = RunNone counts blocks rules work blocks′ m × Cleared work work′
+RunPromise counts blocks rules work blocks′ work′ (Refused r) = BookRefused counts blocks rules (length work) (told r) × (blocks′ ≡ blocks) × (work′ ≡ work)
