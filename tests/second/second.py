@@ -6,8 +6,10 @@ print. Nothing in it is taken from the proved library.
 
     second.py cases NAME       prints the test input of a program, always the same
     second.py expected NAME    reads a test input of that program and prints the expected output
+    second.py report           reads a book's file and prints the report that is due
+    second.py example          prints document 01's book
 
-NAME is base, sweep, narrow or book. A case is a line, its fields parted by single blanks. A number is
+NAME is base, sweep, narrow, book or file. A case is a line, its fields parted by single blanks. A number is
 lowercase hex without needless zeros. A list is its count and then its numbers; a shape is lent as any
 count of 64-bit numbers, also none. Expected counts, and what a refusal tells, are decimal.
 
@@ -36,24 +38,34 @@ after the call, and the work buffer as above.
 
     B k counts blocks rules    stable applications blocks work z e | none applications blocks work z e
                                | refused number text place blocks work z e
+
+file. A report of k bytes, each 0x5a, and the file's bytes as hex pairs, `-` if it is empty. The report is
+shown with `/` for each newline; e counts the untouched bytes at its end.
+
+    F k file         report length text rest e | refused number text place rest e
 """
 
 import sys
 
 import base
 import book
+import file
 import narrow
 import sweep
 
-NAMES = {"base": base, "sweep": sweep, "narrow": narrow, "book": book}
+NAMES = {"base": base, "sweep": sweep, "narrow": narrow, "book": book, "file": file}
 
 # More than a stored output should have.
 OUTPUT_ROOM = 1_200_000
 
 
 def main(arguments):
+    if arguments in (["report"], ["example"]):
+        file.hold_to_example()
+        sys.stdout.buffer.write(file.EXAMPLE if arguments == ["example"] else file.report(sys.stdin.buffer.read()))
+        return
     if len(arguments) != 2 or arguments[0] not in ("cases", "expected") or arguments[1] not in NAMES:
-        sys.exit(f"second.py cases NAME | second.py expected NAME, NAME one of {', '.join(NAMES)}")
+        sys.exit(f"second.py cases NAME | expected NAME | report | example, NAME one of {', '.join(NAMES)}")
     part = NAMES[arguments[1]]
     if arguments[0] == "cases":
         lines = part.all_cases()

@@ -1,6 +1,7 @@
-// The calls as C functions on numbers, for the benchmark alone: an answer becomes a number, a refusal 1000 and more.
+// The calls as C functions on numbers, for the benchmark alone: an answer becomes a number, a refusal 1000 or more.
 use answers::Fit;
 use answers::Narrowed;
+use answers::Ran;
 use answers::Swept;
 use answers::Written;
 
@@ -32,6 +33,14 @@ pub extern "C" fn wedgeotter_sweep(x: &[u64], y: &[u64], out: &mut [u64]) -> u64
 }
 
 // 1 for narrowed shapes, 0 for none.
+fn narrowed(answer: Narrowed) -> u64 {
+    match answer {
+        Narrowed::Narrow => 1,
+        Narrowed::None => 0,
+        Narrowed::Refused(_) => 1000,
+    }
+}
+
 #[no_mangle]
 pub extern "C" fn wedgeotter_equal(
     x: &[u64],
@@ -40,9 +49,51 @@ pub extern "C" fn wedgeotter_equal(
     out_x: &mut [u64],
     out_y: &mut [u64],
 ) -> u64 {
-    match dashed::narrow_equal(x, y, work, out_x, out_y) {
-        Narrowed::Narrow => 1,
-        Narrowed::None => 0,
-        Narrowed::Refused(_) => 1000,
+    narrowed(dashed::narrow_equal(x, y, work, out_x, out_y))
+}
+
+#[no_mangle]
+pub extern "C" fn wedgeotter_at_most(
+    x: &[u64],
+    y: &[u64],
+    work: &mut [u8],
+    out_x: &mut [u64],
+    out_y: &mut [u64],
+) -> u64 {
+    narrowed(dashed::narrow_at_most(x, y, work, out_x, out_y))
+}
+
+#[no_mangle]
+pub extern "C" fn wedgeotter_before(
+    x: &[u64],
+    y: &[u64],
+    work: &mut [u8],
+    out_x: &mut [u64],
+    out_y: &mut [u64],
+) -> u64 {
+    narrowed(dashed::narrow_before(x, y, work, out_x, out_y))
+}
+
+// The applications made, with bit 20 where the run ends in none.
+#[no_mangle]
+pub extern "C" fn wedgeotter_book(
+    counts: &[u64],
+    blocks: &mut [u64],
+    rules: &[u64],
+    work: &mut [u8],
+) -> u64 {
+    match dashed::run_book(counts, blocks, rules, work) {
+        Ran::Stable(k) => k,
+        Ran::None(k) => k | 1048576,
+        Ran::Refused(_) => 2097152,
+    }
+}
+
+// The report's length.
+#[no_mangle]
+pub extern "C" fn wedgeotter_file(file: &[u8], report: &mut [u8]) -> u64 {
+    match dashed::run_file(file, report) {
+        Written::Text(n) => n as u64,
+        Written::Refused(_) => 2097152,
     }
 }

@@ -85,6 +85,12 @@ pub fn work(bytes: &[u8], filler: u8) {
     io::print_decimal(1, untouched(bytes, filler) as u64);
 }
 
+// How many untouched bytes are left at the end of an output whose bytes were all `filler`.
+pub fn rest(bytes: &[u8], filler: u8) {
+    io::write_all(1, b" rest ");
+    io::print_decimal(1, untouched(bytes, filler) as u64);
+}
+
 fn zeros(bytes: &[u8]) -> usize {
     let mut i = 0;
     while i < bytes.len() {

@@ -5,3 +5,4 @@ pub mod OneRun
 pub mod Orders
 pub mod Rows
 pub mod Slips
+pub mod Useless

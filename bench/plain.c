@@ -1,0 +1,378 @@
+// Plain C functions of the same methods as the proved calls.
+#include "plain.h"
+#include <string.h>
+
+static int holds(const uint64_t *b, uint8_t c) { return c < 128 && (b[c / 64] >> (c % 64) & 1); }
+
+// Shape checking as document 01 asks, but for the length: 0, 2 with the block, or 3.
+static uint64_t check_blocks(const uint64_t *s, size_t n, uint64_t *block) {
+    uint64_t total = 0;
+    for (size_t i = 0; i < n; i += 4) {
+        int empty = (s[i] | s[i + 1]) == 0;
+        *block = i / 4 + 1;
+        if (s[i + 2] > s[i + 3] || s[i + 3] > 250 || empty != (s[i + 3] == 0)) return 2;
+    }
+    *block = 0;
+    for (size_t i = 0; i < n; i += 4) total += s[i + 3];
+    return total <= 250 ? 0 : 3;
+}
+
+static int plain_check(const uint64_t *s, size_t n) {
+    uint64_t block;
+    return n % 4 == 0 && n != 0 && n <= 128 && check_blocks(s, n, &block) == 0;
+}
+
+uint64_t plain_fits(const uint64_t *s, size_t n, const uint8_t *t, size_t k) {
+    if (!plain_check(s, n)) return 1000;
+    if (k > 250) return 0;
+    uint8_t a[251], b[251], *after = a, *row = b;
+    memset(a, 0, sizeof a);
+    after[k] = 1;
+    for (size_t i = n; i > 0; i -= 4) {
+        const uint64_t *w = s + i - 4;
+        size_t end = k, near = k + 1;
+        memset(row, 0, 251);
+        for (size_t p = k + 1; p-- > 0;) {
+            if (p == k) end = k;
+            else if (!holds(w, t[p])) end = p;
+            if (w[2] <= k - p && after[p + w[2]] == 1) near = p + w[2];
+            row[p] = near <= end && near - p <= w[3];
+        }
+        uint8_t *x = after;
+        after = row;
+        row = x;
+    }
+    return after[0];
+}
+
+// The least or (up) the greatest text of a checked shape.
+static inline size_t extreme(int up, const uint64_t *s, size_t n, uint8_t *out) {
+    uint64_t count[32];
+    uint8_t taken[32];
+    int succ = -1; // the end; 2c + 1 just above c, 2c - 1 just below it, against 2c
+    for (size_t i = n / 4; i-- > 0;) {
+        const uint64_t *w = s + 4 * i;
+        count[i] = 0;
+        if (w[3] == 0) continue;
+        int c = up ? (w[1] ? 127 - __builtin_clzll(w[1]) : 63 - __builtin_clzll(w[0])) : w[0] ? __builtin_ctzll(w[0]) : 64 + __builtin_ctzll(w[1]);
+        int first = up ? 2 * c > succ : 2 * c < succ;
+        taken[i] = c;
+        count[i] = first ? w[3] : w[2];
+        if (count[i]) succ = first != up ? 2 * c + 1 : 2 * c - 1;
+    }
+    size_t at = 0;
+    for (size_t i = 0; i < n / 4; i++) {
+        if (!count[i]) continue;
+        memset(out + at, taken[i], count[i]);
+        at += count[i];
+    }
+    return at;
+}
+
+uint64_t plain_least(const uint64_t *s, size_t n, uint8_t *out, size_t k) {
+    if (!plain_check(s, n) || k < 250) return 1000;
+    return extreme(0, s, n, out);
+}
+
+// The quick sweep by document 01's steps. Places are block numbers from 1 and offsets.
+struct place {
+    uint64_t block, offset;
+};
+
+static int meets(const uint64_t *a, const uint64_t *b) { return (a[0] & b[0]) || (a[1] & b[1]); }
+
+uint64_t plain_sweep(const uint64_t *x, size_t nx, const uint64_t *y, size_t ny, uint64_t *out, size_t k) {
+    if (!plain_check(x, nx) || !plain_check(y, ny) || k < nx / 2) return 1000;
+    uint64_t n = nx / 4, m = ny / 4, looks = 0;
+    struct place kept[32], at = {1, 0};
+    for (uint64_t b = n; b-- > 0;) {
+        const uint64_t *s = x + 4 * b;
+        uint64_t left = s[3], i = at.block, o = at.offset;
+        for (; i <= m; i++, o = 0) {
+            const uint64_t *t = y + 4 * (m - i);
+            looks++;
+            if (t[2] <= o) continue;
+            if (!meets(s, t)) break;
+            if (left < t[2] - o) {
+                o += left;
+                break;
+            }
+            left -= t[2] - o;
+        }
+        at.block = i;
+        at.offset = o;
+        if (i > m) kept[b] = (struct place){1, 0};
+        else kept[b] = (struct place){m + 1 - i, y[4 * (m - i) + 2] - o};
+    }
+    if (kept[0].block != 1 || kept[0].offset != 0) return 100000;
+    struct place end = {1, 0}, start[32];
+    for (uint64_t b = 0; b < n; b++) {
+        const uint64_t *s = x + 4 * b;
+        struct place from = kept[b];
+        if (from.block < end.block || (from.block == end.block && from.offset < end.offset)) from = end;
+        uint64_t left = s[2], i = from.block, o = from.offset;
+        start[b] = from;
+        while (left > 0 && i <= m) {
+            const uint64_t *t = y + 4 * (i - 1);
+            looks++;
+            if (!meets(s, t)) {
+                int must = t[2] > o;
+                i++;
+                o = 0;
+                if (must) {
+                    start[b] = (struct place){i, 0};
+                    left = s[2];
+                }
+                continue;
+            }
+            if (left <= t[3] - o) {
+                o += left;
+                left = 0;
+            } else {
+                left -= t[3] - o;
+                i++;
+                o = 0;
+            }
+        }
+        if (left) return 100000;
+        end.block = i;
+        end.offset = o;
+    }
+    for (uint64_t b = 0; b < n; b++) {
+        out[2 * b] = start[b].block;
+        out[2 * b + 1] = start[b].offset;
+    }
+    return looks;
+}
+
+// Narrowing under equality with a byte table over pairs of positions, 251 to a row, as the proved code has it.
+struct slot {
+    uint64_t low, high, lower, upper;
+};
+
+static size_t lay(const uint64_t *s, size_t n, struct slot *to) {
+    size_t p = 0;
+    for (size_t i = 0; i < n; i += 4)
+        for (uint64_t k = 0; k < s[i + 3]; k++) to[p++] = (struct slot){s[i], s[i + 1], s[i + 2] > k ? s[i + 2] - k : 0, s[i + 3] - k};
+    to[p] = (struct slot){0, 0, 1, 0};
+    return p;
+}
+
+static int shared(const struct slot *a, const struct slot *b) { return (a->low & b->low) || (a->high & b->high); }
+
+// Cell (i, j) of the own shape and the other: the table read as it is, or turned.
+static uint8_t cell(const uint8_t *t, int turned, size_t i, size_t j) { return turned ? t[j * 251 + i] : t[i * 251 + j]; }
+
+static void side(const uint64_t *x, size_t nx, const struct slot *ys, size_t m, const uint8_t *t, int turned, uint64_t *out) {
+    size_t p = 0;
+    for (size_t i = 0; i < nx; i += 4) {
+        uint64_t low = 0, high = 0, least = 251, most = 0, u = x[i + 3];
+        struct slot own = {x[i], x[i + 1], 0, 0};
+        if (x[i + 2] == 0)
+            for (size_t j = 0; j <= m; j++)
+                if ((cell(t, turned, p, j) & 2) && (cell(t, turned, p + u, j) & 1)) least = 0;
+        for (uint64_t k = 0; k < u; k++)
+            for (size_t j = 0; j < m; j++) {
+                if (!(cell(t, turned, p + k, j) & 2) || !shared(&own, &ys[j])) continue;
+                if (cell(t, turned, p + k + 1, j + 1) & 1) {
+                    low |= own.low & ys[j].low;
+                    high |= own.high & ys[j].high;
+                }
+                if (k + 1 >= x[i + 2] && (cell(t, turned, p + u, j + 1) & 1)) {
+                    if (k + 1 < least) least = k + 1;
+                    if (k + 1 > most) most = k + 1;
+                }
+            }
+        out[i] = low;
+        out[i + 1] = high;
+        out[i + 2] = least;
+        out[i + 3] = most;
+        p += u;
+    }
+}
+
+uint64_t plain_equal(const uint64_t *x, size_t nx, const uint64_t *y, size_t ny, uint8_t *t, size_t w, uint64_t *ox, size_t a, uint64_t *oy, size_t b) {
+    if (!plain_check(x, nx) || !plain_check(y, ny) || w < 63001 || a < nx || b < ny) return 1000;
+    static struct slot xs[251], ys[251];
+    size_t n = lay(x, nx, xs), m = lay(y, ny, ys);
+    for (size_t i = n + 1; i-- > 0;) {
+        struct slot own = xs[i];
+        for (size_t j = m + 1; j-- > 0;) {
+            int v = i == n && j == m;
+            if (!v && own.lower == 0) v = t[(i + own.upper) * 251 + j];
+            if (!v && ys[j].lower == 0) v = t[i * 251 + j + ys[j].upper];
+            if (!v && shared(&own, &ys[j])) v = t[(i + 1) * 251 + j + 1];
+            t[i * 251 + j] = v;
+        }
+    }
+    uint64_t some = t[0];
+    if (some) {
+        t[0] |= 2;
+        for (size_t i = 0; i <= n; i++) {
+            struct slot own = xs[i];
+            for (size_t j = 0; j <= m; j++) {
+                if (!(t[i * 251 + j] & 2)) continue;
+                if (own.lower == 0) t[(i + own.upper) * 251 + j] |= 2;
+                if (ys[j].lower == 0) t[i * 251 + j + ys[j].upper] |= 2;
+                if (shared(&own, &ys[j])) t[(i + 1) * 251 + j + 1] |= 2;
+            }
+        }
+        side(x, nx, ys, m, t, 0, ox);
+        side(y, ny, xs, n, t, 1, oy);
+    }
+    memset(t, 0, 63001);
+    return some;
+}
+
+// A fixed text of m characters as a guide: at each of its places the character that stays with it, those that part from it downwards or (up) upwards,
+// and in `lower` whether a text may end there.
+static void guide(int up, int strict, const uint8_t *text, size_t m, struct slot *next, struct slot *parts) {
+    for (size_t q = 0; q < m; q++) {
+        unsigned __int128 one = (unsigned __int128)1 << text[q], part = up ? ~(one | (one - 1)) : one - 1;
+        next[q] = (struct slot){one, one >> 64, 0, 0};
+        parts[q] = (struct slot){part, part >> 64, !up, 0};
+    }
+    uint64_t any = up ? ~0ull : 0;
+    next[m] = (struct slot){0, 0, 0, 0};
+    parts[m] = (struct slot){any, any, !strict, 0};
+}
+
+// Whether a run of k characters from p can be, e being the place past the block.
+static int ends(const struct slot *own, const struct slot *next, size_t m, const uint8_t *t, size_t p, size_t e, size_t free, size_t k) {
+    if (free <= p + k) return 1;
+    if (k == 0) {
+        for (size_t q = 0; q <= m; q++)
+            if (t[p * 251 + q] == 2 && t[e * 251 + q]) return 1;
+        return 0;
+    }
+    for (size_t q = 0; q < m; q++)
+        if (t[(p + k - 1) * 251 + q] == 2 && t[e * 251 + q + 1] && shared(own, &next[q])) return 1;
+    return 0;
+}
+
+// Narrows one shape by a fixed text with a byte table over positions and characters matched: 1 where some rest keeps to the right side, 2 where also some start
+// matches so far. From position `free` on a text may have parted, and then anything goes.
+static int one_side(int up, int strict, const uint64_t *x, size_t nx, const uint8_t *text, size_t m, uint8_t *t, uint64_t *out) {
+    static struct slot xs[251], next[251], parts[251];
+    size_t n = lay(x, nx, xs), p = 0, free;
+    guide(up, strict, text, m, next, parts);
+    for (size_t i = n + 1; i-- > 0;) {
+        struct slot own = xs[i];
+        for (size_t q = m + 1; q-- > 0;) {
+            int v = own.lower == 0 && t[(i + own.upper) * 251 + q];
+            if (!v && shared(&own, &next[q])) v = t[(i + 1) * 251 + q + 1];
+            if (!v) v = shared(&own, &parts[q]);
+            if (!v && i == n) v = parts[q].lower;
+            t[i * 251 + q] = v;
+        }
+    }
+    if (!t[0]) return 0;
+    t[0] = 2;
+    for (size_t i = 0; i <= n; i++) {
+        struct slot own = xs[i];
+        for (size_t q = 0; q <= m; q++) {
+            if (t[i * 251 + q] != 2) continue;
+            size_t past = (i + own.upper) * 251 + q, on = (i + 1) * 251 + q + 1;
+            if (own.lower == 0 && t[past]) t[past] = 2;
+            if (shared(&own, &next[q]) && t[on]) t[on] = 2;
+        }
+    }
+    for (free = 1; free <= n; free++) {
+        size_t q = 0, i = free - 1;
+        while (q <= m && !(t[i * 251 + q] == 2 && shared(&xs[i], &parts[q]))) q++;
+        if (q <= m) break;
+    }
+    for (size_t i = 0; i < nx; i += 4) {
+        uint64_t low = 0, high = 0, u = x[i + 3], least = x[i + 2], most = u;
+        struct slot own = {x[i], x[i + 1], 0, 0};
+        if (free < p + u) low = high = ~0ull;
+        else
+            for (size_t k = 0; k < u; k++)
+                for (size_t q = 0; q <= m; q++) {
+                    if (t[(p + k) * 251 + q] != 2) continue;
+                    low |= parts[q].low;
+                    high |= parts[q].high;
+                    if (q == m || !t[(p + k + 1) * 251 + q + 1]) continue;
+                    low |= next[q].low;
+                    high |= next[q].high;
+                }
+        while (least < u && !ends(&own, next, m, t, p, p + u, free, least)) least++;
+        while (most > x[i + 2] && !ends(&own, next, m, t, p, p + u, free, most)) most--;
+        out[i] = own.low & low;
+        out[i + 1] = own.high & high;
+        out[i + 2] = least;
+        out[i + 3] = most;
+        p += u;
+    }
+    return 1;
+}
+
+// X by the greatest text of Y, Y by the least text of X.
+static uint64_t order(int strict, const uint64_t *x, size_t nx, const uint64_t *y, size_t ny, uint8_t *t, size_t w, uint64_t *ox, size_t a, uint64_t *oy, size_t b) {
+    if (!plain_check(x, nx) || !plain_check(y, ny) || w < 63001 || a < nx || b < ny) return 1000;
+    uint8_t text[250];
+    uint64_t some = one_side(0, strict, x, nx, text, extreme(1, y, ny, text), t, ox);
+    if (some) some = one_side(1, strict, y, ny, text, extreme(0, x, nx, text), t, oy);
+    memset(t, 0, 63001);
+    return some;
+}
+
+uint64_t plain_at_most(const uint64_t *x, size_t nx, const uint64_t *y, size_t ny, uint8_t *t, size_t w, uint64_t *ox, size_t a, uint64_t *oy, size_t b) {
+    return order(0, x, nx, y, ny, t, w, ox, a, oy, b);
+}
+
+uint64_t plain_before(const uint64_t *x, size_t nx, const uint64_t *y, size_t ny, uint8_t *t, size_t w, uint64_t *ox, size_t a, uint64_t *oy, size_t b) {
+    return order(1, x, nx, y, ny, t, w, ox, a, oy, b);
+}
+
+// The refusals of a book: 6, then 2 and 3 text by text, 7 rule by rule, 4.
+struct refusal plain_check_book(const uint64_t *counts, size_t texts, const uint64_t *blocks, size_t nb, const uint64_t *rules, size_t nr, size_t w) {
+    struct refusal wrong = {6, 0, 0};
+    uint64_t sum = 0, block;
+    if (texts < 1 || texts > 8 || nr % 3 || nr > 48) return wrong;
+    for (size_t k = 0; k < texts; k++) {
+        if (counts[k] < 1 || counts[k] > 32) return wrong;
+        sum += counts[k];
+    }
+    if (nb != 4 * sum) return wrong;
+    for (size_t k = 0; k < texts; blocks += 4 * counts[k++]) {
+        uint64_t number = check_blocks(blocks, 4 * counts[k], &block);
+        if (number) return (struct refusal){number, k + 1, block};
+    }
+    for (size_t j = 0; j < nr; j += 3) {
+        uint64_t a = rules[j + 1], b = rules[j + 2];
+        if (rules[j] > 2 || a < 1 || a > texts || b < 1 || b > texts || a == b) return (struct refusal){7, 0, j / 3 + 1};
+    }
+    return (struct refusal){w < 63001 ? 4 : 0, 0, 0};
+}
+
+// The rounds of a checked book, on a copy of the blocks.
+uint64_t plain_rounds(const uint64_t *counts, size_t texts, uint64_t *blocks, size_t nb, const uint64_t *rules, size_t nr, uint8_t *t, size_t w) {
+    uint64_t copy[1024], x[128], y[128], *at[9] = {copy}, made = 0;
+    memcpy(copy, blocks, nb * sizeof *copy);
+    memset(t, 0, 63001);
+    for (size_t k = 0; k < texts; k++) at[k + 1] = at[k] + 4 * counts[k];
+    for (int changed = 1; changed;) {
+        changed = 0;
+        for (size_t j = 0; j < nr; j += 3) {
+            uint64_t *a = at[rules[j + 1] - 1], *b = at[rules[j + 2] - 1];
+            size_t n = 4 * counts[rules[j + 1] - 1], m = 4 * counts[rules[j + 2] - 1];
+            uint64_t some;
+            if (rules[j] == 0) some = plain_equal(a, n, b, m, t, w, x, 128, y, 128);
+            else some = order(rules[j] == 2, a, n, b, m, t, w, x, 128, y, 128);
+            made++;
+            if (some != 1) return made | NONE;
+            if (memcmp(a, x, n * sizeof *x) == 0 && memcmp(b, y, m * sizeof *y) == 0) continue;
+            memcpy(a, x, n * sizeof *x);
+            memcpy(b, y, m * sizeof *y);
+            changed = 1;
+        }
+    }
+    memcpy(blocks, copy, nb * sizeof *copy);
+    return made;
+}
+
+uint64_t plain_book(const uint64_t *counts, size_t texts, uint64_t *blocks, size_t nb, const uint64_t *rules, size_t nr, uint8_t *t, size_t w) {
+    if (plain_check_book(counts, texts, blocks, nb, rules, nr, w).number) return REFUSED;
+    return plain_rounds(counts, texts, blocks, nb, rules, nr, t, w);
+}

@@ -1,0 +1,601 @@
+"""A book's file and the report of its run, as the program `narrow` reads and writes them.
+
+Which line departs is found by two methods, held to each other: a scanner that goes through the bytes
+and reads the book, and a regular expression for each kind of line.
+"""
+
+import re
+from pathlib import Path
+
+from book import MOST_RULES, MOST_TEXTS, book_of, hold_to_laws, random_book, run, shape_total, shuffled, wide_book
+from making import Dice, block, many_blocks, unsound_blocks, words_of, written
+from narrow import AT_MOST, BEFORE, EQUAL, KINDS
+from shapes import MOST_BLOCKS, Refused, agree
+
+MOST_BYTES = 16_384
+REPORT_WANTED = 16_384
+MOST_NUMBER = 65_535
+MOST_ALL_BLOCKS = 256
+
+# What the program has room for.
+INPUT_ROOM = 900_000
+LONGEST_FILE = 16_400
+LONGEST_REPORT = 16_500
+
+# Document 01's book and what it prints.
+EXAMPLE = b"""\
+TEXTS 2
+1
+1
+BLOCKS 2
+0000000e000000000000000000000000 0 3
+0000001c000000000000000000000000 2 2
+RULES 1
+0 1 2
+"""
+EXAMPLE_REPORT = b"""\
+STABLE 2
+TEXTS 2
+1
+1
+BLOCKS 2
+0000000c000000000000000000000000 2 2
+0000000c000000000000000000000000 2 2
+"""
+
+EXAMPLES = Path(__file__).resolve().parents[2] / "examples"
+
+
+# Writing.
+
+
+def numbers_line(numbers):
+    return " ".join(map(str, numbers)) + "\n"
+
+
+def block_line(words):
+    low, high, lower, upper = words
+    return f"{high:016x}{low:016x} {lower} {upper}\n"
+
+
+def texts_and_blocks(counts, words):
+    blocks = [words[at : at + 4] for at in range(0, len(words), 4)]
+    lines = [f"TEXTS {len(counts)}\n", *(numbers_line([count]) for count in counts)]
+    return "".join([*lines, f"BLOCKS {len(blocks)}\n", *map(block_line, blocks)])
+
+
+def book_file(counts, words, rules):
+    """The file of a book, its rules as one row of numbers."""
+    triples = [rules[at : at + 3] for at in range(0, len(rules), 3)]
+    lines = [f"RULES {len(triples)}\n", *map(numbers_line, triples)]
+    return (texts_and_blocks(counts, words) + "".join(lines)).encode()
+
+
+# Reading, byte by byte. A line departs where the first byte stands that no file in the grammar has
+# behind the bytes before it, or that is missing.
+
+
+class Scanner:
+    def __init__(self, file):
+        self.file = file
+        self.at = 0
+        self.line = 1
+
+    def depart(self):
+        raise Refused(8, 0, self.line)
+
+    def next(self):
+        """The next byte, or None at the end."""
+        return self.file[self.at] if self.at < len(self.file) else None
+
+    def word(self, word):
+        for byte in word:
+            if self.next() != byte:
+                self.depart()
+            self.at += 1
+
+    def newline(self):
+        self.word(b"\n")
+        self.line += 1
+
+    def number(self, most):
+        value, digits = 0, 0
+        while self.next() is not None and 48 <= self.next() <= 57:
+            if digits > 0 and value == 0:
+                self.depart()
+            value = 10 * value + self.next() - 48
+            if value > most:
+                self.depart()
+            digits += 1
+            self.at += 1
+        if digits == 0:
+            self.depart()
+        return value
+
+    def base(self):
+        """Two numbers of a base, the one of the codes 0 to 63 first."""
+        value = 0
+        for _ in range(32):
+            if self.next() is None or self.next() not in b"0123456789abcdef":
+                self.depart()
+            value = 16 * value + b"0123456789abcdef".index(self.next())
+            self.at += 1
+        return [value % 2**64, value // 2**64]
+
+    def section(self, word, most, content):
+        """The numbers of the lines behind a count."""
+        self.word(word + b" ")
+        count = self.number(most)
+        self.newline()
+        numbers = []
+        for _ in range(count):
+            numbers += content()
+            self.newline()
+        return numbers
+
+    def text(self):
+        return [self.number(MOST_NUMBER)]
+
+    def block(self):
+        words = self.base()
+        for _ in range(2):
+            self.word(b" ")
+            words.append(self.number(MOST_NUMBER))
+        return words
+
+    def rule(self):
+        kind = self.number(MOST_NUMBER)
+        self.word(b" ")
+        one = self.number(MOST_NUMBER)
+        self.word(b" ")
+        return [kind, one, self.number(MOST_NUMBER)]
+
+    def book(self):
+        counts = self.section(b"TEXTS", MOST_TEXTS, self.text)
+        words = self.section(b"BLOCKS", MOST_ALL_BLOCKS, self.block)
+        rules = self.section(b"RULES", MOST_RULES, self.rule)
+        if self.next() is not None:
+            self.depart()
+        return counts, words, rules
+
+
+# Reading, line by line: for each section its first line, its other lines, and the least such line.
+
+NUMBER = rb"(?:0|[1-9][0-9]{0,3}|[1-5][0-9]{4}|6[0-4][0-9]{3}|65[0-4][0-9]{2}|655[0-2][0-9]|6553[0-5])"
+SECTIONS = (
+    (b"TEXTS", rb"TEXTS ([0-8])", NUMBER, b"0"),
+    (
+        b"BLOCKS",
+        rb"BLOCKS (0|[1-9][0-9]?|1[0-9]{2}|2[0-4][0-9]|25[0-6])",
+        rb"[0-9a-f]{32} %s %s" % (NUMBER, NUMBER),
+        b"0" * 32 + b" 0 0",
+    ),
+    (b"RULES", rb"RULES ([0-9]|1[0-6])", rb"%s %s %s" % (NUMBER, NUMBER, NUMBER), b"0 0 0"),
+)
+
+
+def departs_by_patterns(file):
+    """The number of the first line that departs, or None."""
+    # What stands behind the last newline is no whole line; if it is empty it is none at all.
+    *lines, unfinished = file.split(b"\n")
+    at = 0
+    for _, head, other, _ in SECTIONS:
+        found = re.fullmatch(head, lines[at]) if at < len(lines) else None
+        at += 1
+        if found is None:
+            return at
+        for _ in range(int(found[1])):
+            at += 1
+            if at > len(lines) or re.fullmatch(other, lines[at - 1]) is None:
+                return at
+    return None if at == len(lines) and not unfinished else at + 1
+
+
+def completed(lines):
+    """A file that begins with these lines, all of them in the grammar."""
+    lines = list(lines)
+    at = 0
+    for word, head, _, least in SECTIONS:
+        if at == len(lines):
+            lines.append(word + b" 0")
+        at += 1 + int(re.fullmatch(head, lines[at])[1])
+        lines += [least] * (at - len(lines))
+    return b"".join(line + b"\n" for line in lines)
+
+
+def book_read(file):
+    """Block counts, blocks and rules as three rows of numbers."""
+    if len(file) > MOST_BYTES:
+        raise Refused(9, 0, 0)
+    try:
+        book = Scanner(file).book()
+    except Refused as refusal:
+        line = refusal.args[2]
+        agree("the line that departs", file, line, departs_by_patterns(file))
+        # The lines before it begin some file.
+        begun = completed(file.split(b"\n")[: line - 1])
+        agree("the lines before", file, departs_by_patterns(begun), None)
+        agree("the lines before", file, book_file(*Scanner(begun).book()), begun)
+        raise
+    agree("the line that departs", file, None, departs_by_patterns(file))
+    agree("the book written again", file, book_file(*book), file)
+    return book
+
+
+# The report.
+
+
+def report(file):
+    try:
+        counts, words, rules = book_read(file)
+        shapes, triples = book_of(counts, words, rules)
+    except Refused as refusal:
+        return b"REFUSED %d %d %d\n" % refusal.args
+    final, applications = run(shapes, triples)
+    if max(shape_total(shape) for shape in shapes) <= 40:
+        hold_to_laws(shapes, triples, final)
+    if final is None:
+        return b"NONE %d\n" % applications
+    words = [word for shape in final for word in words_of(shape)]
+    return b"STABLE %d\n" % applications + texts_and_blocks(counts, words).encode()
+
+
+def hold_to_example():
+    agree("document 01's program", EXAMPLE, report(EXAMPLE), EXAMPLE_REPORT)
+
+
+# The expected line of a case.
+
+
+def bytes_read(field):
+    return b"" if field == "-" else bytes.fromhex(field)
+
+
+def expected_line(line):
+    _, length, field = line.split(" ")
+    length = int(length, 16)
+    if length < REPORT_WANTED:
+        return f"{Refused(5, 0, 0).line} rest {length}"
+    text = report(bytes_read(field))
+    if len(text) > REPORT_WANTED or b"Z" in text or b"/" in text:
+        raise AssertionError(f"a report that cannot be shown: {text}")
+    return f"report {len(text)} {text.decode().replace(chr(10), '/')} rest {length - len(text)}"
+
+
+# Making cases.
+
+
+class Cases:
+    def __init__(self):
+        self.made = {}
+
+    @property
+    def lines(self):
+        return list(self.made)
+
+    def file(self, file, length=REPORT_WANTED):
+        """A case, once only."""
+        self.made[f"F {length:x} {file.hex() or '-'}"] = True
+
+    def lent(self, counts, words, rules):
+        self.file(book_file(counts, words, rules))
+
+    def book(self, texts, rules):
+        """A case of texts, each a shape's numbers, and rules, each a triple."""
+        self.file(file_of(texts, rules))
+
+
+def file_of(texts, rules):
+    words = [word for text in texts for word in text]
+    return book_file([len(text) // 4 for text in texts], words, [number for rule in rules for number in rule])
+
+
+GOOD = block(b"ab", 0, 3)
+BAD = block(b"a", 2, 1)
+HEAVY = block(b"a", 0, 200)
+
+# A book of several lines of each kind, stable in its second round.
+PLAIN = file_of(
+    [written("{a..z}0..3 {0..9}1..4"), written("{b..y}2..2 {5..9}1..1"), written("{0..9,a..z}0..9")],
+    [(EQUAL, 1, 2), (AT_MOST, 2, 3)],
+)
+
+
+def example_files():
+    return [path.read_bytes() for path in sorted(EXAMPLES.glob("*.book"))]
+
+
+def picked_cases(cases):
+    for file in (EXAMPLE, *example_files(), PLAIN):
+        cases.file(file)
+    cases.book([written("a1..1"), written("b1..1")], [(EQUAL, 1, 2)])
+    cases.book([written("a0..2"), written("a0..1")], [(BEFORE, 1, 2)])
+    cases.book([written("a1..1"), written("a1..1")], [(BEFORE, 1, 2)])
+    cases.book([written("a0..1 a0..1"), written("a1..1")], [(EQUAL, 1, 2)])
+    # No rules.
+    for texts in (["a0..1"], ["empty 0..0"], ["a0..1", "b2..250"], ["a0..1"] * 8, ["A0..7 " * 32], ["A250..250"]):
+        cases.book([written(text) for text in texts], [])
+    # Each code of a base on its own place, and counts of one to three digits.
+    for code in range(128):
+        cases.book([block([code], code % 3, code)] if code else [block([code], 1, 1)], [])
+    cases.book([block(range(128), 0, 250), block(range(64), 9, 10), block(range(64, 128), 99, 100)], [])
+    for count in (1, 2, 9, 10, 11, 31, 32):
+        cases.book([block(b"a", 0, 1) * count, block(b"b", 1, 1)], [(BEFORE, 1, 2)])
+
+
+def round_cases(cases):
+    """Books that need several rounds, their rules in several orders, both verdicts."""
+    for most in (1, 2, 5, 20):
+        text = block(b"n", 0, most)
+        cases.book([text] * 2, [(BEFORE, 1, 2), (BEFORE, 2, 1)])
+        cases.book([text] * 3, [(BEFORE, 3, 1), (BEFORE, 2, 3), (BEFORE, 1, 2)])
+        cases.book([text] * 3, [(AT_MOST, 1, 2), (EQUAL, 2, 3), (AT_MOST, 3, 1)])
+    for count in (3, 8):
+        chain = [(BEFORE, text, text + 1) for text in range(1, count)]
+        for most in (count - 2, count - 1, count + 3):
+            for rules in (chain, chain[::-1], chain[1::2] + chain[::2], chain + chain[::-1]):
+                cases.book([block(b"m", 0, most)] * count, rules)
+    # Over 100 applications.
+    cases.book([block(b"m", 0, 250)] * 2, [(BEFORE, 1, 2), (BEFORE, 2, 1)])
+    cases.book([written("a0..9"), written("a3..5")], [(EQUAL, 1, 2)] * 16)
+
+
+def random_cases(cases):
+    dice = Dice(41)
+    for number in range(105):
+        texts, rules = wide_book(dice) if number % 5 < 2 else random_book(dice)
+        cases.book(texts, rules)
+        if number % 4 == 0 and len(rules) > 1:
+            cases.book(texts, shuffled(dice, rules))
+
+
+def large_cases(cases):
+    """The most texts, blocks and rules, and lines with large numbers."""
+    every = [(number % 3, number % 8 + 1, (number + 1 + number // 8) % 8 + 1) for number in range(MOST_RULES)]
+    cases.book([block(b"ab", 0, 3)] * 8, [(min(kind, AT_MOST), one, other) for kind, one, other in every])
+    cases.book([block(b"ab", 0, 3)] * 8, every)
+    # The most texts with the most blocks.
+    full = [block([48 + number % 10], 0, 7) * MOST_BLOCKS for number in range(MOST_TEXTS)]
+    file = file_of(full, [(AT_MOST, 1, 2), (BEFORE, 7, 8)] * 8)
+    cases.file(file)
+    lines = file.splitlines(keepends=True)
+    cases.file(b"".join(lines[:265] + [b"0" * 32 + b" 0 00\n"] + lines[266:]))
+    cases.file(b"".join(lines[:-1]))
+    cases.file(file + b"\n")
+
+
+def count_cases(cases):
+    """Counts that are wrong (6), also where blocks and rules are wrong too."""
+    cases.lent([], [], [])
+    cases.lent([], GOOD, [])
+    cases.lent([], BAD, [3, 0, 0])
+    for texts in range(1, MOST_TEXTS + 1):
+        for count in (0, 33, 34, 256, MOST_NUMBER):
+            counts = [1] * MOST_TEXTS
+            counts[texts - 1] = count
+            cases.lent(counts, GOOD * min(7 + count, 8), [])
+        counts = [1] * texts
+        cases.lent(counts, GOOD * (texts - 1), [])
+        cases.lent(counts, GOOD * (texts + 1), [])
+        cases.lent(counts, [], [])
+    cases.lent([33], GOOD * 33, [])
+    cases.lent([32, 32], GOOD * 63, [])
+    cases.lent([2], BAD, [3, 0, 0])
+    cases.lent([0], [], [0, 1, 1])
+    cases.lent([0, 1], GOOD, [])
+    cases.lent([2, 0], GOOD * 2, [])
+    cases.lent([65_535, 1], GOOD, [])
+    # Right ones at the limits.
+    cases.lent([1] * 8, GOOD * 8, [0, 1, 2] * 16)
+    cases.lent([32], block(b"a", 0, 1) * 32, [])
+    cases.lent([31, 1], block(b"a", 0, 1) * 32, [1, 2, 1])
+
+
+def shape_cases(cases):
+    """Unsound blocks (2) and totals over 250 (3), text by text, before the rules."""
+    for number, unsound in enumerate(unsound_blocks()):
+        if max(unsound[2:]) <= MOST_NUMBER:
+            cases.book([GOOD, GOOD + unsound], [(EQUAL, 1, 2)] if number % 2 else [(3, 0, 0)])
+    for count in (251, 256, 9_999, 10_000, 65_534, MOST_NUMBER):
+        cases.book([GOOD, GOOD, block(b"a", 0, count) + GOOD], [])
+        cases.book([block(b"a", count, 3)], [])
+    for text in range(1, MOST_TEXTS + 1):
+        for place in (1, text):
+            texts = [GOOD] * MOST_TEXTS
+            texts[text - 1] = GOOD * (place - 1) + BAD + GOOD
+            cases.book(texts, [(EQUAL, 1, 2)])
+        texts = [GOOD] * MOST_TEXTS
+        texts[text - 1] = HEAVY * 2
+        cases.book(texts, [(EQUAL, 1, 2)])
+        if text < MOST_TEXTS:
+            texts[MOST_TEXTS - 1] = BAD
+            cases.book(texts, [(3, 0, 0)])
+            texts[text - 1], texts[MOST_TEXTS - 1] = BAD, HEAVY * 2
+            cases.book(texts, [(3, 0, 0)])
+    for place in (1, 16, 31, 32):
+        small = block(b"a", 0, 1)
+        cases.book([small, small * (place - 1) + BAD + small * (32 - place)], [])
+    for texts in (
+        [HEAVY * 2 + BAD],
+        [HEAVY + BAD + HEAVY, BAD],
+        [GOOD * 3, GOOD + BAD + BAD],
+        [many_blocks(32, 250)],
+        [many_blocks(32, 251)],
+        [written("a250..250 b0..1")],
+        [written("a125..125 b125..125")],
+        [block(b"a", 250, 250) * 32],
+    ):
+        cases.book(texts, [])
+
+
+WRONG_RULES = (
+    (3, 1, 2), (4, 1, 2), (MOST_NUMBER, 1, 2), (256, 1, 2), (EQUAL, 0, 1), (AT_MOST, 1, 0), (BEFORE, 0, 0),
+    (EQUAL, 3, 1), (AT_MOST, 1, 3), (BEFORE, 3, 3), (EQUAL, MOST_NUMBER, 1), (BEFORE, 2, MOST_NUMBER),
+    (EQUAL, 257, 2), (EQUAL, 1, 258), (EQUAL, 1, 1), (AT_MOST, 2, 2), (BEFORE, 1, 1),
+)
+
+
+def rule_cases(cases):
+    """Wrong rules (7), the first of them named."""
+    texts = [GOOD, block(b"b", 1, 2)]
+    for rule in WRONG_RULES:
+        cases.book(texts, [rule])
+        cases.book(texts, [(AT_MOST, 1, 2), rule, (7, 7, 7)])
+    for place in range(1, MOST_RULES + 1):
+        rule = WRONG_RULES[place % len(WRONG_RULES)]
+        cases.book(texts, [(AT_MOST, 1, 2)] * (place - 1) + [rule] + [(7, 1, 2)] * (MOST_RULES - place))
+        cases.book(texts, [(KINDS[place % 3], 2, 1)] * (place - 1) + [(EQUAL, 2, 2)])
+    # A rule is wrong even behind one that says none.
+    none = [block(b"a", 1, 1), block(b"b", 1, 1)]
+    cases.book(none, [(EQUAL, 1, 2), (EQUAL, 1, 1)])
+    cases.book(none, [(EQUAL, 1, 2), (EQUAL, 2, 1)])
+    cases.book([GOOD], [(EQUAL, 1, 2)])
+    cases.book([GOOD], [(EQUAL, 1, 1)])
+
+
+def wrong_lines(line):
+    """Lines that stand for this one, without its newline: nearly the same, or of another kind."""
+    yield from (b"", b" ", b" " + line, line + b" ", line + b"\r", line + b"\t", line + b"\0", b"\0" + line)
+    yield from (line + b" 0", line + b"0", line + b"x", line[:-1], line[1:], line.swapcase(), line + line)
+    yield from (b"\xef\xbb\xbf" + line, line[:-1] + bytes([line[-1] | 128]), b"#" + line, b"-" + line, b"+" + line)
+    if b" " in line:
+        first, rest = line.split(b" ", 1)
+        yield from (first, rest, first + b"  " + rest, first + b"\t" + rest, first + rest, first + b" 0" + rest)
+        yield from (first + b" +" + rest, first + b" -" + rest, first + b"," + rest, first + b"\n" + rest)
+        yield first + b" 0x" + rest
+        front, last = line.rsplit(b" ", 1)
+        for number in (b"00", b"01", b"010", b"65535", b"65536", b"65540", b"66000", b"70000", b"99999", b"100000"):
+            yield front + b" " + number
+        for number in (2**16 + 1, 2**32 + 1, 2**64, 2**64 + 1, 10**30):
+            yield front + b" %d" % number
+        yield from (front + b" 1 " + last, front + b" " + last[::-1] + b".", front + b" 1e1", front + b" 1.0")
+    yield from (b"TEXTS 1", b"BLOCKS 1", b"RULES 1", b"0", b"65535", b"65536", b"00", b"1 1 2", b"0" * 32 + b" 0 0")
+
+
+def line_cases(cases):
+    """Files that depart (8), at each kind of line."""
+    lines = EXAMPLE.split(b"\n")[:-1]
+    for at, line in enumerate(lines):
+        for wrong in wrong_lines(line):
+            cases.file(b"".join(line + b"\n" for line in lines[:at] + [wrong] + lines[at + 1 :]))
+    # Every line left out, doubled, changed for the next, and missing with all behind it.
+    lines = PLAIN.split(b"\n")[:-1]
+    for at in range(len(lines)):
+        for changed in (
+            lines[:at] + lines[at + 1 :],
+            lines[:at] + lines[at : at + 1] + lines[at:],
+            lines[:at] + lines[at : at + 2][::-1] + lines[at + 2 :],
+            lines[:at],
+        ):
+            cases.file(b"".join(line + b"\n" for line in changed))
+
+
+def word_cases(cases):
+    """Section words that are misspelt, and counts at their limits and past them."""
+    for word, other in ((b"TEXTS", b"RULES"), (b"BLOCKS", b"TEXTS"), (b"RULES", b"BLOCKS")):
+        wrong = [word.lower(), word.title(), word[:-1], word + b"S", word[1:], other, word + b":", b"", word[::-1]]
+        wrong += [word[:at] + b"X" + word[at + 1 :] for at in range(len(word))]
+        for instead in wrong:
+            cases.file(EXAMPLE.replace(word + b" ", instead + b" "))
+        cases.file(EXAMPLE.replace(word + b" ", word + b"\n"))
+        cases.file(EXAMPLE.replace(word + b" ", word))
+    for word, most in ((b"TEXTS", MOST_TEXTS), (b"BLOCKS", MOST_ALL_BLOCKS), (b"RULES", MOST_RULES)):
+        count = re.search(word + rb" ([0-9]+)\n", EXAMPLE)[1]
+        for number in (0, 1, 2, 3, 7, most - 1, most, most + 1, most + 2, 10 * most, 99, 100, 255, 999, 65_535, 65_536):
+            cases.file(EXAMPLE.replace(word + b" " + count, word + b" %d" % number))
+        for number in (b"00", b"02", b"002", b"+2", b"-2", b"2 ", b" 2", b"", b"two", b"2.", b"0x2", b"2 2", b"2\r"):
+            cases.file(EXAMPLE.replace(word + b" " + count, word + b" " + number))
+    # The most lines of a section, and one more, none of them there.
+    for file in (b"TEXTS 8\n", b"TEXTS 9\n", b"TEXTS 0\nBLOCKS 256\n", b"TEXTS 0\nBLOCKS 257\n"):
+        cases.file(file)
+    for file in (b"RULES 16\n", b"RULES 17\n", b"RULES 0\n", b"RULES 0", b"RULES 1\n", b"RULES 1\n0 0 0\n"):
+        cases.file(b"TEXTS 0\nBLOCKS 0\n" + file)
+    cases.file(b"TEXTS 8\n" + b"1\n" * 8 + b"BLOCKS 8\n" + (block_line(GOOD) * 8).encode() + b"RULES 17\n")
+
+
+def short_cases(cases):
+    """Files with next to nothing in them, and files that go on."""
+    for file in (b"", b"\n", b"\n\n", b" ", b"\0", b"\xff", b"0\n"):
+        cases.file(file)
+    for file in (b"T", b"TEXTS", b"TEXTS ", b"TEXTS 1", b"TEXTS 1\n", EXAMPLE_REPORT):
+        cases.file(file)
+    for front in (b"STABLE 0\n", b"\n", b" "):
+        cases.file(front + EXAMPLE)
+    for end in (b"\r\n", b"\r", b" ", b""):
+        cases.file(EXAMPLE.replace(b"\n", end))
+    for more in (b"\n", b"\n\n", b" ", b" \n", b"0", b"x", b"\0", b"\r", b"\xff", b"0 1 2\n", b"RULES 0\n"):
+        cases.file(EXAMPLE + more)
+        cases.file(EXAMPLE[:-1] + more)
+    cases.file(EXAMPLE + EXAMPLE)
+    # The digits' neighbours, as a digit of a base and as a number.
+    for byte in b"/:@AFG`gz~":
+        one = bytes([byte])
+        cases.file(EXAMPLE.replace(b"0000000e", b"0000000" + one))
+        cases.file(EXAMPLE.replace(b"0000000e", one + b"000000e"))
+        cases.file(EXAMPLE.replace(b" 0 3\n", b" %s 3\n" % one))
+        cases.file(EXAMPLE.replace(b" 0 3\n", b" 0 3%s\n" % one))
+
+
+def changed_cases(cases):
+    """The small book cut at every byte, and every byte of it changed, taken out and pushed in."""
+    for at in range(len(EXAMPLE)):
+        cases.file(EXAMPLE[:at])
+        cases.file(EXAMPLE[at:])
+        cases.file(EXAMPLE[:at] + EXAMPLE[at + 1 :])
+        for byte in b"09a \n\0\xff":
+            if byte != EXAMPLE[at]:
+                cases.file(EXAMPLE[:at] + bytes([byte]) + EXAMPLE[at + 1 :])
+    for at in range(len(EXAMPLE) + 1):
+        for byte in b"0 \n":
+            cases.file(EXAMPLE[:at] + bytes([byte]) + EXAMPLE[at:])
+
+
+def size_cases(cases):
+    """Files of the greatest size and of one byte more."""
+    filler = b"0 1 2\n" * 3000
+    cases.file((EXAMPLE + filler)[:MOST_BYTES])
+    cases.file((EXAMPLE + filler)[: MOST_BYTES + 1])
+    cases.file(b"\n" * MOST_BYTES)
+    cases.file(b"Z" * (MOST_BYTES + 1))
+    cases.file((EXAMPLE + filler)[: MOST_BYTES + 1], REPORT_WANTED - 1)
+
+
+def report_cases(cases):
+    """Reports too short, exact and longer; too short comes before all else."""
+    files = [EXAMPLE, PLAIN, b"", EXAMPLE[:-1], EXAMPLE + b"\n"]
+    files += [file_of([written("a1..1"), written("b1..1")], [(0, 1, 2)])]
+    files += [file_of([BAD], []), file_of([HEAVY * 2], []), file_of([GOOD], [(0, 1, 1)]), book_file([], [], [])]
+    for file in files:
+        for length in (REPORT_WANTED - 1, REPORT_WANTED, REPORT_WANTED + 1, LONGEST_REPORT):
+            cases.file(file, length)
+    for length in (0, 1, 13, 14, 15, 100, 109, 250, 4_096, 16_000):
+        cases.file(EXAMPLE, length)
+        cases.file(b"", length)
+
+
+def all_cases():
+    hold_to_example()
+    cases = Cases()
+    picked_cases(cases)
+    round_cases(cases)
+    count_cases(cases)
+    shape_cases(cases)
+    rule_cases(cases)
+    line_cases(cases)
+    word_cases(cases)
+    short_cases(cases)
+    changed_cases(cases)
+    report_cases(cases)
+    random_cases(cases)
+    large_cases(cases)
+    size_cases(cases)
+    return cases.lines
+
+
+def hold_to_room(lines):
+    for line in lines:
+        _, length, field = line.split(" ")
+        if len(bytes_read(field)) > LONGEST_FILE or int(length, 16) > LONGEST_REPORT:
+            raise AssertionError(f"no room for this case: {line}")
+    if sum(len(line) + 1 for line in lines) >= INPUT_ROOM:
+        raise AssertionError("no room for so many cases")
