@@ -1,17 +1,17 @@
 -- The laws of a base: where its words' bits stand, when it is empty, and its least and greatest character. Assumes nothing.
 use mathlib.Core.Path.{_≡_, refl, sym, ap, _∙_, subst}
-use mathlib.Core.Bool.{Bool, true, false, false≢true}
+use mathlib.Core.Bool.{true, false, false≢true}
 use mathlib.Core.List.{List, [], _∷_}
 use mathlib.Core.Logic.{_⊎_, inl, inr, ⊎-elim}
 use Prim.Native.Nat.{ℕ, zero, suc, _+_, _-_, _*_, _/_, _%_, _^_, _≤_, _<_}
-use native.Mathlib.Nat.{zero-div, zero-mod, mod-lt, div-eq-of-lt, div-one, div-eq-of-lt-le, pow-zero, pow-suc, lt-of-lt-of-le, one-mul, pow-succ'}
+use native.Mathlib.Nat.{zero-div, mod-lt, div-eq-of-lt, div-one, div-eq-of-lt-le, lt-of-lt-of-le, one-mul, pow-succ'}
 use native.Mathlib.Numerals.{add-one}
 use native.Mathlib.Omega.{arith}
 use lib.Arith.{bin-ind, digits-lt}
 use lib.Bits.{block-half, block-odd}
 use lib.Count.{trailingZeros, under, leadingZeros, leading-top}
 use lib.Dec.{lit<, eqb}
-use lib.Pow.{pow-mono, pow-pos, shr-shr, shr-lt, high}
+use lib.Pow.{pow-mono, shr-shr, shr-lt, high}
 use borrow.Author.Tests.{eqb-true, eqb-false}
 use Rattle.bases.specs.Base.{baseOf, Holds, Empty, Least, Greatest, leastOf, greatestOf}
 use Rattle.bases.specs.Tells.{Tells}

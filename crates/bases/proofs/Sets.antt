@@ -1,16 +1,14 @@
 -- Bases as sets: equal by their characters; what two share and what either holds, by `&` and `|` of their words. Assumes nothing.
 use mathlib.Core.Path.{_≡_, refl, sym, ap, ap₂, _∙_, subst}
-use mathlib.Core.Bool.{true, false, true≢false}
-use mathlib.Core.List.{List, [], _∷_}
+use mathlib.Core.List.{[], _∷_}
 use mathlib.Core.Logic.{_⊎_, inl, inr, ⊎-elim}
-use Prim.Native.Nat.{ℕ, zero, suc, _+_, _*_, _/_, _%_, _^_, _≤_, _<_}
-use native.Mathlib.Nat.{mod-lt, div-one, zero-div}
+use Prim.Native.Nat.{ℕ, zero, suc, _+_, _*_, _/_, _%_, _^_, _<_}
+use native.Mathlib.Nat.{mod-lt, div-one}
 use native.Mathlib.Omega.{arith}
 use lib.Arith.{bin-ind}
 use lib.Bits.{bitAnd, bitOr, and-shr, and-mod, or-shr, or-mod, and-block, or-block, and-zero-l, or-zero-l}
 use lib.Dec.{lit<}
 use Rattle.bases.specs.Base.{baseOf, Holds, Empty, Meets}
-use Rattle.bases.specs.Tells.{Tells}
 use Rattle.bases.proofs.Laws.{halved, empty-zero, none-in-zero, empty-words, words-empty}
 
 -- ---- two bases that hold the same characters are the same number

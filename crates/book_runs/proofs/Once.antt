@@ -1,12 +1,11 @@
 -- One application of a rule, from what narrowing answers for its two texts. Assumes nothing.
-use mathlib.Core.Path.{_≡_, refl, sym, ap, ap₂, _∙_, subst, subst₂}
+use mathlib.Core.Path.{_≡_, sym, ap, ap₂, _∙_, subst, subst₂}
 use mathlib.Core.List.{List, _++_}
-use Prim.Native.Nat.{ℕ, _+_, _-_, _*_, _/_, _^_, _≤_, _<_}
+use Prim.Native.Nat.{ℕ, _+_, _-_, _*_, _^_, _<_}
 use native.Mathlib.Omega.{arith}
 use lib.ListN.{length, take, drop}
 use lib.Seq.{take-at}
 use Rattle.shapes.specs.All.{All}
-use Rattle.shapes.specs.Shape.{Block}
 use Rattle.shapes.specs.Lent.{shapeOf, wordsOf}
 use Rattle.hulls.specs.Hull.{None, Hull, Pairs}
 use Rattle.books.specs.declared.Place.{Place}
@@ -64,9 +63,6 @@ module _ {counts xs : List ℕ} (d : Standing counts xs) (t : Triple) (right : R
     left ys e =
         e ∙ ap₂ (λ (m : ℕ) (y : List ℕ). replaced m y (replaced (pa .from) (take (pa .to - pa .from) ox′) xs)) (eb .from) taken-b
         ∙ ap₂ (λ (m : ℕ) (x : List ℕ). replaced (firstOf counts (t .b) * 4) new-b (replaced m x xs)) (ea .from) taken-a
-
-    Stood : Type 0
-    Stood = StandsAt xs (pa .from) (take (pa .to - pa .from) ox′) × StandsAt xs (pb .from) (take (pb .to - pb .from) oy′)
 
     pub applied-same : StandsAt xs (pa .from) (take (pa .to - pa .from) ox′) × StandsAt xs (pb .from) (take (pb .to - pb .from) oy′) → laidOver d t right new-a new-b ≡ xs
     applied-same s = settled-same d t right new-a new-b size-a size-b

@@ -1,5 +1,4 @@
 -- What narrowing promises, as the runner takes it. Assumes nothing.
-use mathlib.Core.Path.{_≡_}
 use mathlib.Core.List.{List}
 use Prim.Native.Nat.{ℕ}
 use Rattle.answers.specs.declared.Narrowed.{Narrowed}

@@ -3,4 +3,3 @@ pub mod Sums
 pub mod Part
 pub mod Tell
 pub mod Refused
-pub mod Determined

@@ -1,5 +1,5 @@
 -- The steps of document 01 give the least and the greatest text. One argument for both directions. Assumes nothing.
-use mathlib.Core.Path.{_≡_, refl, sym, ap, _∙_, subst, subst₂}
+use mathlib.Core.Path.{_≡_, refl, sym, subst}
 use mathlib.Core.Bool.{Bool, true, false, true≢false, false≢true}
 use mathlib.Core.List.{List, [], _∷_, _++_}
 use mathlib.Core.Logic.{_⊎_, inl, inr, ⊎-elim}
@@ -9,18 +9,17 @@ use borrow.Author.Tests.{leb-true, leb-false, ltb-true, ltb-false}
 use lib.ListN.{length, replicate, length-replicate}
 use Rattle.bases.specs.Base.{Holds, Empty, leastOf, greatestOf}
 use Rattle.bases.proofs.Laws.{least-of, greatest-of}
-use Rattle.bases.proofs.Plain.{lt-or-le, eq-or-ne}
+use Rattle.bases.proofs.Plain.{lt-or-le}
 use Rattle.shapes.specs.All.{All}
 use Rattle.shapes.specs.All.All.{none, more}
-use Rattle.shapes.specs.Shape.{Block, Sound, Small, Run, Filling, Fits, textOf}
+use Rattle.shapes.specs.Shape.{Block, Sound, Small, Run, Filling, textOf}
 use Rattle.shapes.specs.Shape.Filling.{done, fill}
 use Rattle.shapes.proofs.All.{all-map}
-use Rattle.texts.specs.Order.{AtMost}
-use Rattle.texts.specs.Order.AtMost.{ends, less, same}
+use Rattle.texts.specs.Order.AtMost.{ends}
 use Rattle.extremes.specs.declared.Direction.{Direction}
 use Rattle.extremes.specs.declared.Direction.the-variants.{Least, Greatest}
 use Rattle.extremes.specs.declared.Successor.{Successor}
-use Rattle.extremes.specs.declared.Successor.the-variants.{End, Above, Below}
+use Rattle.extremes.specs.declared.Successor.the-variants.{End}
 use Rattle.extremes.specs.Steps.{charOf, goesFirst, countOf, onwards, unless, taken, after, successor, runs, extreme}
 use Rattle.extremes.specs.Extreme.{NoFurther, Extreme}
 use Rattle.extremes.specs.Extreme.NoFurther.{at-most, at-least}

@@ -9,7 +9,7 @@ use lib.ListN.{length, getD, take, drop, replicate, length-append, length-replic
 use lib.Seq.{take-suc, take-all, take-at, drop-at, drop-drop}
 use Rattle.bases.specs.Base.{Empty}
 use Rattle.shapes.specs.All.{All}
-use Rattle.shapes.specs.Shape.{Block, Sound, Small, textOf, total}
+use Rattle.shapes.specs.Shape.{Block, Sound, Small, textOf}
 use Rattle.shapes.specs.Lent.{shapeOf, blockAt, Accepted}
 use Rattle.shapes.proofs.Fits.{filling-length}
 use Rattle.shapes.proofs.Lent.{shape-length, shape-at, block-sound}

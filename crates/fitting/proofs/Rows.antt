@@ -1,17 +1,16 @@
 -- The laws of rows of marks: what one block adds, and the row of no blocks. Assumes nothing.
-use mathlib.Core.Path.{_≡_, refl, sym, ap, _∙_, subst, subst₂}
+use mathlib.Core.Path.{_≡_, sym, ap, _∙_, subst, subst₂}
 use mathlib.Core.List.{List, [], _∷_}
-use mathlib.Core.Logic.{_⊎_, inl, inr, ⊎-elim}
-use Prim.Native.Nat.{ℕ, zero, suc, _+_, _-_, _≤_, _<_}
+use mathlib.Core.Logic.{_⊎_, ⊎-elim}
+use Prim.Native.Nat.{ℕ, _+_, _-_, _≤_, _<_}
 use native.Mathlib.Omega.{arith}
 use lib.ListN.{length, getD, take, drop, set, length-drop, length-take, length-set, drop-of-length-le, replicate, length-replicate, getD-replicate}
 use lib.Seq.{getD-drop, getD-take, getD-set-same, getD-set-other, drop-drop}
 use Rattle.bases.specs.Base.{Holds}
 use Rattle.bases.proofs.Plain.{lt-or-le, eq-or-ne}
-use Rattle.shapes.specs.All.{All}
 use Rattle.shapes.specs.Shape.{Block, Fits}
 use Rattle.shapes.proofs.All.{all-at, all-of}
-use Rattle.shapes.proofs.Fits.{fits-none, none-fits, Taken, taken-of-fits, fits-of-taken}
+use Rattle.shapes.proofs.Fits.{fits-none, none-fits, taken-of-fits, fits-of-taken}
 use Rattle.fitting.specs.Rows.{Says, Row, RunEnd, Nearest, Reaches}
 
 -- ---- one step of each kind
@@ -43,9 +42,6 @@ module _ (row : List ℕ) (n p lower near : ℕ) (h : Nearest row n (p + 1 + low
         hit = λ g. let a = h .hit g .0 in absurd (omega arith);
         clear = λ q a b. absurd (omega arith);
       }
-
-  pub near-here : p + lower ≤ n → getD row (p + lower) 0 ≡ 1 → Nearest row n (p + lower) (p + lower)
-  near-here l m = record { hit = λ g. (omega arith, m); clear = λ q a b u. absurd (omega arith) }
 
   pub near-further : (getD row (p + lower) 0 ≡ 1 → ⊥) → Nearest row n (p + lower) near
   near-further m =

@@ -2,22 +2,18 @@
 use mathlib.Core.Path.{_≡_, refl, sym, ap, _∙_, subst}
 use mathlib.Core.Bool.{Bool, true, false}
 use mathlib.Core.List.{List, [], _∷_}
-use mathlib.Core.Logic.{_⊎_, inl, inr, ⊎-elim}
-use Prim.Native.Nat.{ℕ, zero, suc, _+_, _-_, _≤_, _<_}
+use Prim.Native.Nat.{ℕ, suc, _+_, _-_, _≤_, _<_}
 use native.Mathlib.Omega.{arith}
 use lib.ListN.{length, getD, drop, length-drop, drop-of-length-le}
-use Rattle.bases.specs.Base.{Holds}
-use Rattle.bases.proofs.Plain.{lt-or-le}
 use Rattle.shapes.specs.All.{All, more}
-use Rattle.shapes.specs.Lent.{blockAt}
 use Rattle.texts.specs.Order.{AtMost, Before}
 use Rattle.texts.proofs.Rests.{rest-next}
 use Rattle.extremes.specs.declared.Direction.{Direction}
 use Rattle.extremes.specs.declared.Direction.the-variants.{Least, Greatest}
-use Rattle.order_sides.specs.Guide.{Guide, Keeps, Ended}
+use Rattle.order_sides.specs.Guide.{Keeps, Ended}
 use Rattle.side_tables.specs.Board.{guideOf}
 use Rattle.guides.specs.Sides.{Beyond, lower, higher, Side, NextIs, PartsFrom, MayEnd}
-use Rattle.guides.specs.Shown.{NextShown, PartsShown, GuideTo}
+use Rattle.guides.specs.Shown.{GuideTo}
 
 -- ---- the two orders, from either side
 

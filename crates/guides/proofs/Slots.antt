@@ -1,9 +1,9 @@
 -- The slots of a guide. Assumes nothing.
-use mathlib.Core.Path.{_≡_, refl, sym, ap, _∙_, subst}
-use mathlib.Core.Bool.{Bool, true, false}
-use mathlib.Core.List.{List, [], _∷_}
-use mathlib.Core.Logic.{_⊎_, inl, inr, ⊎-elim}
-use Prim.Native.Nat.{ℕ, _+_, _-_, _/_, _≤_, _<_}
+use mathlib.Core.Path.{_≡_, refl, sym, _∙_, subst}
+use mathlib.Core.Bool.{Bool, false}
+use mathlib.Core.List.{List}
+use mathlib.Core.Logic.{_⊎_, ⊎-elim}
+use Prim.Native.Nat.{ℕ, _+_, _-_, _≤_, _<_}
 use native.Mathlib.Omega.{arith}
 use lib.ListN.{length, getD, take, length-take}
 use lib.Seq.{getD-take}
@@ -15,7 +15,7 @@ use Rattle.layouts.specs.Slots.{Put}
 use Rattle.layouts.proofs.Slots.{put-others}
 use Rattle.extremes.specs.declared.Direction.{Direction}
 use Rattle.extremes.specs.declared.Direction.the-variants.{Least, Greatest}
-use Rattle.guides.specs.Sides.{Beyond, lower, higher, NextIs, PartsFrom, MayEnd}
+use Rattle.guides.specs.Sides.{Beyond, lower, higher, PartsFrom, MayEnd}
 use Rattle.guides.specs.Shown.{Plain, NextShown, PartsShown, GuideTo}
 
 pub taken-length : (text : List ℕ) (m : ℕ) → m ≤ length text → length (take m text) ≡ m

@@ -4,7 +4,7 @@ use mathlib.Core.List.{List, [], _∷_, _++_}
 use mathlib.Core.Logic.{_↔_}
 use Prim.Native.Nat.{ℕ, zero, suc, _<_}
 use native.Mathlib.Omega.{arith}
-use lib.ListN.{length, getD, take, drop, take-append-drop}
+use lib.ListN.{length, getD, take, drop}
 use lib.Seq.{take-at, drop-at}
 use Rattle.shapes.specs.Shape.{Block, Run, Filling, done, fill, textOf}
 use Rattle.hulls.specs.Hull.{Pairs, Satisfies, blank}
@@ -37,9 +37,6 @@ split-first (b ∷ X) Y (fill r f) = fill r (split-first X Y f)
 pub split-second : (X Y : List Block) {f : List (List ℕ)} → Filling (X ++ Y) f → Filling Y (drop (length X) f)
 split-second [] Y f = f
 split-second (b ∷ X) Y (fill r f) = split-second X Y f
-
-pub two-shapes : (X Y : List Block) (f : List (List ℕ)) → Filling (X ++ Y) f ↔ (Filling X (take (length X) f) × Filling Y (drop (length X) f))
-two-shapes X Y f = (λ x. (split-first X Y x, split-second X Y x), λ x. rw (take-append-drop (length X) f) at (join (x .0) (x .1)))
 
 -- a relation of two texts, from their runs end to end
 pub pairs : (R : List ℕ → List ℕ → Type 0) (x y : List (List ℕ)) (n : ℕ) → length x ≡ n → Pairs R n (x ++ y) ↔ R (textOf x) (textOf y)

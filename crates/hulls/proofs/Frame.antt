@@ -9,8 +9,7 @@ use lib.Seq.{drop-nil, drop-drop, drop-append-le, drop-at}
 use Rattle.bases.proofs.Plain.{lt-or-le}
 use Rattle.shapes.specs.All.{All, more}
 use Rattle.shapes.specs.Shape.{Block, Sound, Run, Filling, fill, done}
-use Rattle.hulls.specs.Hull.{Satisfies, None, Taken, Tight, blank, Hull}
-use Rattle.hulls.specs.Book.{part}
+use Rattle.hulls.specs.Hull.{Satisfies, Taken, Tight, blank, Hull}
 use Rattle.hulls.proofs.Fill.{filling-size, filling-at, join, split-first, split-second}
 use Rattle.hulls.proofs.Tight.{tight-same, some-run, tight-run}
 use Rattle.hulls.proofs.Hull.{same-part}
@@ -140,13 +139,6 @@ after {Q} {B} {H} {C} c h =
     same f x = drop-at (drop (length B) f) (take (length B) f) (length C) (filling-size (split-second B C x))
 
 -- ---- a rule that names one text
-
-pub one-part : {Q : List (List ℕ) → Type 0} {A B H C : List Block} → All Sound A → All Sound C → Hull Q B H
-    → Hull (λ f. Q (part (length A) (length B) f)) (A ++ (B ++ C)) (A ++ (H ++ C))
-one-part a c h = before a (after c h)
-
-pub no-part : {Q : List (List ℕ) → Type 0} (A : List Block) {B : List Block} (C : List Block) → None Q B → None (λ f. Q (part (length A) (length B) f)) (A ++ (B ++ C))
-no-part A {B} C n = record { never = λ f s. n .never _ (record { filling = split-first B C (split-second A (B ++ C) (s .filling)); rule = s .rule }) }
 
 -- for sound blocks the rule that is always true changes nothing
 pub everything : {S : List Block} → All Sound S → Hull (λ _. Unit {0}) S S

@@ -6,10 +6,10 @@ use native.Mathlib.Omega.{arith}
 use lib.ListN.{length, getD}
 use lib.Seq.{ext-getD}
 use Rattle.shapes.specs.All.{All, more}
-use Rattle.shapes.specs.Shape.{Block, Sound, Run, Filling, total}
+use Rattle.shapes.specs.Shape.{Block, Sound, Run, Filling}
 use Rattle.hulls.specs.Hull.{Satisfies, None, Taken, blank, Hull, Outcome, none, shapes, Narrows, to-none, to-shapes}
 use Rattle.hulls.specs.Book.{Within, end, next}
-use Rattle.hulls.proofs.Order.{within-of, within-size, within-filling, within-total}
+use Rattle.hulls.proofs.Order.{within-of, within-size, within-filling}
 use Rattle.hulls.proofs.Fill.{filling-size, filling-at, filling-of}
 use Rattle.hulls.proofs.Tight.{tight-same, tight-least, tight-mono, tight-one, tight-sound}
 
@@ -60,9 +60,6 @@ within-small (next p w) (more s r) (suc i) l = within-small w r i (omega arith)
 
 pub hull-sound : {P : List (List ℕ) → Type 0} {S H : List Block} → Hull P S H → All Sound S → All Sound H
 hull-sound h s = all-of blank _ (λ i l. tight-sound (h .tight i (rw (← h .size) l)) (within-small (hull-within h) s i l))
-
-pub hull-total : {P : List (List ℕ) → Type 0} {S H : List Block} → Hull P S H → total H ≤ total S
-hull-total h = within-total (hull-within h)
 
 -- ---- what depends only on the choices that satisfy the rule
 

@@ -1,7 +1,7 @@
 -- `Within` is an order, kept by fillings and totals, and read block by block. Assumes nothing.
 use mathlib.Core.Path.{_≡_, refl, ap}
 use mathlib.Core.List.{List, [], _∷_}
-use Prim.Native.Nat.{ℕ, zero, suc, _≤_, _<_}
+use Prim.Native.Nat.{ℕ, suc, _≤_, _<_}
 use native.Mathlib.Omega.{arith}
 use lib.ListN.{length, getD}
 use Rattle.bases.proofs.Sets.{same-base}
@@ -61,11 +61,6 @@ within-filling end done = done
 within-filling (next p w) (fill r f) = fill (inside-run p r) (within-filling w f)
 
 -- ---- by block number
-
-pub within-at : {H S : List Block} → Within H S → (i : ℕ) → i < length S → Inside (getD H i blank) (getD S i blank)
-within-at end i h = absurd (omega arith)
-within-at (next p w) zero h = p
-within-at (next p w) (suc i) h = within-at w i (omega arith)
 
 pub within-of : (H S : List Block) → length H ≡ length S → ((i : ℕ) → i < length S → Inside (getD H i blank) (getD S i blank)) → Within H S
 within-of [] [] e f = end

@@ -97,9 +97,6 @@ module _ {X Y : ℕ → Block} {n m : ℕ} where
   after-refl : {w : List ℕ} {k : ℕ} → MarkedTo X Y n m k w → After X Y n m k w w
   after-refl t = record { inv = t; stays = λ i j v. v; live = λ i j v. v }
 
-  after-trans : {u v w : List ℕ} {k : ℕ} → After X Y n m k u v → After X Y n m k v w → After X Y n m k u w
-  after-trans p q = record { inv = q .inv; stays = λ i j v. q .stays i j (p .stays i j v); live = λ i j v. p .live i j (q .live i j v) }
-
 -- a cell that may be marked, since it is on the table, reached, and later than index k
 pub record Due (X Y : ℕ → Block) (n m k : ℕ) (w : List ℕ) (a b : ℕ) : Type 0 where
   pub row : a ≤ n

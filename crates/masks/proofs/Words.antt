@@ -1,18 +1,18 @@
 -- The bits of 2 ^ k, of 2 ^ k - 1 and of what is left of a word above; and of two words. Assumes nothing.
 use mathlib.Core.Path.{_≡_, refl, sym, ap, _∙_, subst}
-use mathlib.Core.List.{List, [], _∷_}
-use mathlib.Core.Logic.{_⊎_, inl, inr, ⊎-elim}
+use mathlib.Core.List.{[], _∷_}
+use mathlib.Core.Logic.{_⊎_, ⊎-elim}
 use Prim.Native.Nat.{ℕ, zero, suc, _+_, _-_, _*_, _/_, _%_, _^_, _≤_, _<_}
 use native.Mathlib.Nat.{div-one, div-eq-of-lt, pow-suc, one-mul}
 use native.Mathlib.Omega.{arith}
 use lib.Arith.{dbl-pred}
 use lib.Bits.{shifted-half, shifted-even}
 use lib.Pow.{pow-mono, pow-pos, shr-shr, shl-shr, shl-exact, high-ones}
-use Rattle.bases.specs.Base.{baseOf, Holds}
+use Rattle.bases.specs.Base.{Holds}
 use Rattle.bases.proofs.Laws.{halved, first-word, second-word}
-use Rattle.bases.proofs.Plain.{lt-or-le, eq-or-ne}
+use Rattle.bases.proofs.Plain.{lt-or-le}
 use Rattle.side_chars.specs.declared.Held.{Held}
-use Rattle.side_chars.specs.Chars.{heldOf, Holding}
+use Rattle.side_chars.specs.Chars.{Holding}
 use Rattle.masks.specs.Words.{Bits}
 
 half : (n : ℕ) → n / 1 % 2 ≡ n % 2

@@ -1,7 +1,7 @@
 // Bases that hold one character, all below one, or all above one.
 use side_chars::Held;
 ghost use mathlib.Core.Path.{_≡_};
-ghost use Prim.Native.Nat.{_+_, _≤_, _<_};
+ghost use Prim.Native.Nat.{_≤_, _<_};
 ghost use Rattle.side_chars.specs.Chars.{Holding};
 ghost use Rattle.masks.specs.Words.{Bits};
 

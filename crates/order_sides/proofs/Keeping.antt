@@ -1,15 +1,15 @@
 -- Texts on the right side: joined and cut, and where the rest of a shape has one. Assumes nothing.
-use mathlib.Core.Path.{_≡_, refl, sym, ap, _∙_, subst}
+use mathlib.Core.Path.{_≡_, refl, sym, ap, subst}
 use mathlib.Core.List.{List, [], _∷_, _++_}
 use Prim.Native.Nat.{ℕ, zero, suc, _+_, _-_, _≤_, _<_}
-use mathlib.Core.Logic.{_⊎_, inl, inr, ⊎-elim}
+use mathlib.Core.Logic.{_⊎_, ⊎-elim}
 use native.Mathlib.Omega.{arith}
 use Rattle.bases.proofs.Plain.{lt-or-le}
-use Rattle.bases.specs.Base.{Holds, Meets}
+use Rattle.bases.specs.Base.{Holds}
 use Rattle.shapes.specs.Shape.{Block}
-use Rattle.rests.specs.Walk.{Walk, here, skip, step, Path, Bounded}
-use Rattle.rests.proofs.Walks.{walk-to, walk-from, walk-append, split-char, path-of, below, below-character, forwards}
-use Rattle.order_sides.specs.Guide.{Guide, Keeps, along, Clear, Even, Free, Ended}
+use Rattle.rests.specs.Walk.{Walk, here, skip, step, Bounded}
+use Rattle.rests.proofs.Walks.{walk-to, split-char, path-of, below, below-character, forwards}
+use Rattle.order_sides.specs.Guide.{Guide, Keeps, along, Clear, Free, Ended}
 
 -- a text that matches T, and then a rest on the right side
 pub keeps-append : {G : Guide} {s q : ℕ} {t u : List ℕ} → Walk (along G) s q t → Keeps G s u → Keeps G q (t ++ u)

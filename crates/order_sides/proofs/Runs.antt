@@ -1,7 +1,7 @@
 -- The runs that a block has in texts on the right side are those that the states tell of. Assumes nothing.
 use mathlib.Core.Path.{_≡_, refl, sym, ap, _∙_, subst}
 use mathlib.Core.List.{List, [], _∷_, _++_, append-assoc, List·Memᴰ·head, List·Memᴰ·tail}
-use mathlib.Core.Logic.{_⊎_, inl, inr, ⊎-elim}
+use mathlib.Core.Logic.{_⊎_, ⊎-elim}
 use Prim.Native.Nat.{ℕ, zero, suc, _+_, _-_, _≤_, _<_}
 use native.Mathlib.Omega.{arith}
 use lib.ListN.{length, replicate, length-append, length-replicate}
@@ -12,11 +12,11 @@ use Rattle.shapes.specs.Shape.{Block, Run}
 use Rattle.shapes.proofs.All.{all-append, all-left, all-right, all-head, all-tail}
 use Rattle.hulls.specs.Hull.{Occurs, Tight}
 use Rattle.hulls.proofs.Tight.{all-from}
-use Rattle.rests.specs.Walk.{Walk, here, skip, step, Path, Bounded}
-use Rattle.rests.proofs.Walks.{walk-from, walk-to, walk-text, walk-append, split-char, path-of, text-of}
+use Rattle.rests.specs.Walk.{Walk, step, Bounded}
+use Rattle.rests.proofs.Walks.{walk-from, walk-to, walk-append, path-of, text-of}
 use Rattle.rests.proofs.Laid.{Has, steps, run-walk, walk-run, inside, enter}
 use Rattle.rests.proofs.Cut.{last-of}
-use Rattle.order_sides.specs.Guide.{Guide, Keeps, along, Clear, Even, Free}
+use Rattle.order_sides.specs.Guide.{Guide, Keeps, along, Even, Free}
 use Rattle.order_sides.specs.Collect.{Passes, Ends, Collected}
 use Rattle.order_sides.proofs.Keeping.{keeps-append, CutAt, whole, early, cut, free-later, early-free, clear-of, advance-to, text-clear}
 

@@ -3,13 +3,13 @@
 use mathlib.Core.Path.{_≡_, refl, sym, ap, _∙_, subst}
 use mathlib.Core.List.{List, [], _∷_, _++_}
 use mathlib.Core.Logic.{⊎-elim}
-use Prim.Native.Nat.{ℕ, zero, suc, _+_, _-_, _≤_, _<_}
+use Prim.Native.Nat.{ℕ, _+_, _-_, _≤_, _<_}
 use native.Mathlib.Omega.{arith}
 use lib.ListN.{length, getD, take}
 use Rattle.bases.specs.Base.{Holds}
 use Rattle.bases.proofs.Plain.{lt-or-le}
 use Rattle.shapes.specs.All.{All, more}
-use Rattle.shapes.specs.Shape.{Block, Sound, Run, Filling, Fits, textOf, total}
+use Rattle.shapes.specs.Shape.{Block, Sound, Run, Filling, textOf, total}
 use Rattle.shapes.proofs.All.{all-head, all-at}
 use Rattle.hulls.specs.Hull.{Satisfies, None, Some, Taken, Tight, blank, Hull}
 use Rattle.hulls.proofs.Tight.{tight-same, run-of-length}

@@ -2,7 +2,7 @@
 -- The state is how many characters of T are matched so far. Both orders, both sides and both flags are one guide each.
 use mathlib.Core.Path.{_≡_}
 use mathlib.Core.List.{List, [], _∷_}
-use Prim.Native.Nat.{ℕ, _+_, _≤_, _<_}
+use Prim.Native.Nat.{ℕ, _+_, _<_}
 use Rattle.bases.specs.Base.{Holds, Meets}
 use Rattle.shapes.specs.Shape.{Block, textOf}
 use Rattle.rests.specs.Walk.{Path}

@@ -1,13 +1,13 @@
 -- Both sides narrowed, each by the extreme text of the other: what that leaves is the narrowing of the two. Assumes nothing.
 use mathlib.Core.Path.{_≡_, refl, sym, ap, _∙_, subst}
 use mathlib.Core.Bool.{Bool, true, false}
-use mathlib.Core.List.{List, [], _∷_, _++_}
-use Prim.Native.Nat.{ℕ, _+_, _≤_, _<_}
+use mathlib.Core.List.{List}
+use Prim.Native.Nat.{ℕ, _≤_, _<_}
 use native.Mathlib.Omega.{arith}
 use lib.ListN.{length, getD, take, drop}
 use lib.Seq.{take-at, getD-take}
 use Rattle.shapes.specs.All.{All}
-use Rattle.shapes.specs.Shape.{Block, Sound, Small, Filling, Fits, textOf, total}
+use Rattle.shapes.specs.Shape.{Block, Small, textOf}
 use Rattle.shapes.specs.Lent.{shapeOf, Accepted}
 use Rattle.shapes.proofs.All.{all-at}
 use Rattle.shapes.proofs.Fits.{fits-length}
@@ -16,10 +16,10 @@ use Rattle.extremes.specs.declared.Direction.{Direction}
 use Rattle.extremes.specs.declared.Direction.the-variants.{Least, Greatest}
 use Rattle.extremes.specs.Steps.{extreme}
 use Rattle.extremes.specs.Extreme.{Extreme, TextWritten}
-use Rattle.hulls.specs.Hull.{Satisfies, None, Hull}
+use Rattle.hulls.specs.Hull.{None, Hull}
 use Rattle.hulls.proofs.Hull.{same-rule}
 use Rattle.tables.specs.Table.{Same-rest}
-use Rattle.pairs.specs.Narrow.{cleared, Narrows, NoPair, NarrowAnswer}
+use Rattle.pairs.specs.Narrow.{cleared, Narrows, NarrowAnswer}
 use Rattle.equals.specs.Inner.{Whole}
 use Rattle.equals.proofs.Sides.{cleared-rest}
 use Rattle.guides.specs.Sides.{Side}

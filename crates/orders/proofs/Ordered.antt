@@ -1,6 +1,6 @@
 -- X at most (before) Y asks of X that its text is at most (before) the greatest text of Y, and of Y that its text is at least (after) the least of X.
 -- Assumes nothing.
-use mathlib.Core.Path.{_≡_, refl, sym, ap, _∙_, subst, subst₂}
+use mathlib.Core.Path.{refl, sym, subst}
 use mathlib.Core.List.{List, _++_}
 use Prim.Native.Nat.{ℕ}
 use lib.ListN.{length}
@@ -10,7 +10,7 @@ use Rattle.texts.proofs.Order.{at-most-trans, before-trans, before-trans′}
 use Rattle.extremes.specs.declared.Direction.the-variants.{Least, Greatest}
 use Rattle.extremes.specs.Extreme.{Extreme, NoFurther}
 use Rattle.extremes.specs.Extreme.NoFurther.{at-most, at-least}
-use Rattle.hulls.specs.Hull.{Pairs, Satisfies, None, Hull}
+use Rattle.hulls.specs.Hull.{Pairs, None, Hull}
 use Rattle.hulls.proofs.Fill.{pairs, filling-size, split-first, split-second}
 use Rattle.hulls.proofs.Sides.{sides}
 use Rattle.orders.specs.Ordered.{Ordered}

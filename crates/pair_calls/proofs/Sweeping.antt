@@ -1,16 +1,15 @@
 -- The sweep's promise: from the steps, and one outcome for one input. Assumes nothing.
-use mathlib.Core.Path.{_≡_, refl, sym, ap, _∙_, subst, subst₂}
+use mathlib.Core.Path.{_≡_, sym, ap, _∙_, subst₂}
 use mathlib.Core.List.{List}
-use Prim.Native.Nat.{ℕ, _*_, _/_, _≤_, _<_}
+use Prim.Native.Nat.{ℕ, _*_, _≤_}
 use native.Mathlib.Omega.{arith}
 use lib.ListN.{length}
 use Rattle.answers.specs.Told.{Told}
 use Rattle.answers.specs.declared.Swept.{Swept}
 use Rattle.answers.specs.declared.Swept.the-variants.{Places, Cannot, Refused}
 use Rattle.answers.proofs.Told.{told-one}
-use Rattle.shapes.specs.Shape.{Block}
 use Rattle.shapes.specs.Lent.{shapeOf}
-use Rattle.pairs.specs.Pair.{PairAccepted, PairRefused}
+use Rattle.pairs.specs.Pair.{PairAccepted}
 use Rattle.pairs.proofs.Pair.{pair-one, pair-not}
 use Rattle.sweep_steps.specs.Steps.{Found, places, cannot, sweepOf}
 use Rattle.sweeps.specs.Read.{sweptOf, outputOf}

@@ -10,7 +10,7 @@ use Rattle.answers.proofs.Told.{told-one}
 use Rattle.shapes.specs.Shape.{Block}
 use Rattle.shapes.specs.Lent.{shapeOf, wordsOf}
 use Rattle.hulls.proofs.Hull.{one-hull, hull-or-none}
-use Rattle.pairs.specs.Narrow.{Narrows, NoPair, NarrowPromise}
+use Rattle.pairs.specs.Narrow.{Narrows, NarrowPromise}
 use Rattle.pairs.proofs.Pair.{narrow-one, narrow-not}
 
 module _ (R : List ℕ → List ℕ → Type 0) (xs ys ox oy : List ℕ) where

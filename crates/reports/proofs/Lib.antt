@@ -2,4 +2,3 @@
 pub mod Put
 pub mod Example
 pub mod Ready
-pub mod Short

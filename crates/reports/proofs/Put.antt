@@ -6,7 +6,7 @@ use native.Mathlib.Omega.{arith}
 use native.Mathlib.Nat.{add-zero, zero-add, add-assoc}
 use native.Mathlib.Numerals.{add-one}
 use lib.ListN.{length, getD, take, drop, length-append}
-use lib.Seq.{sets, length-sets, take-suc}
+use lib.Seq.{sets, take-suc}
 use Rattle.answers.specs.Told.{Told}
 use Rattle.bases.specs.Base.{baseOf}
 use Rattle.bases.proofs.Laws.{one-word}
@@ -41,9 +41,6 @@ put-then out at t mid a u new r p q =
 
 pub put-as : (out : List ℕ) (at : ℕ) (t u new : List ℕ) (r : ℕ) → t ≡ u → Put out at t new r → Put out at u new r
 put-as out at t u new r e p = subst (λ (x : List ℕ). Put out at x new r) e p
-
-pub put-length : (out : List ℕ) (at : ℕ) (t new : List ℕ) (r : ℕ) → Put out at t new r → length new ≡ length out
-put-length out at t new r p = ap length (p .stored) ∙ length-sets out at t
 
 -- ---- how long the lines are
 

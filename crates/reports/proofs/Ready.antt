@@ -1,6 +1,6 @@
 -- The blocks of sound shapes can be written: what a caller of `write_stable` shows of the final shapes. Assumes nothing.
 use mathlib.Core.List.{List, [], _∷_}
-use Prim.Native.Nat.{ℕ, _^_, _≤_, _<_}
+use Prim.Native.Nat.{ℕ, _^_, _<_}
 use native.Mathlib.Omega.{arith}
 use Rattle.shapes.specs.All.{All}
 use Rattle.shapes.specs.All.All.{none, more}

@@ -3,4 +3,3 @@ pub mod Walks
 pub mod Laid
 pub mod Cut
 pub mod Tight
-pub mod Rest

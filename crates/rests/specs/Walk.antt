@@ -25,15 +25,6 @@ unfoldable pub slotAt : List Block → ℕ → Block
 slotAt [] i = past
 slotAt (b ∷ s) i = pick (ltb i (b .upper)) (lessen b i) (slotAt s (i - b .upper))
 
--- The rest of a shape from position i on: what is left of the block there, and the blocks after it.
-unfoldable pub restIf : Bool → List Block → List Block → List Block
-restIf true a b = a
-restIf false a b = b
-
-unfoldable pub restAt : List Block → ℕ → List Block
-restAt [] i = []
-restAt (b ∷ s) i = restIf (ltb i (b .upper)) (lessen b i ∷ s) (restAt s (i - b .upper))
-
 -- From position p the text is read, and the position is then q: the run may end where nothing more is asked of it, or a character is taken.
 -- X says what is allowed at each position.
 pub data Walk (X : ℕ → Block) (q : ℕ) : ℕ → List ℕ → Type 0 where

@@ -1,7 +1,7 @@
 -- Which numbers are which block: the blocks of a lent shape by index. Assumes nothing.
 use mathlib.Core.Path.{_≡_, refl, sym, ap, _∙_, subst}
 use mathlib.Core.List.{List, [], _∷_}
-use Prim.Native.Nat.{ℕ, zero, suc, _+_, _-_, _*_, _/_, _%_, _^_, _≤_, _<_}
+use Prim.Native.Nat.{ℕ, zero, suc, _+_, _-_, _*_, _/_, _^_, _≤_, _<_}
 use Rattle.bases.proofs.Laws.{words-bound}
 use native.Mathlib.Numerals.{add-one}
 use native.Mathlib.Omega.{arith}
@@ -49,10 +49,6 @@ shape-from xs i h =
 -- past the last block none is left
 pub none-left : (xs : List ℕ) → drop (length xs / 4) (shapeOf xs) ≡ []
 none-left xs = let past : length (shapeOf xs) ≤ length xs / 4 = let e = shape-length xs in omega arith in drop-of-length-le (shapeOf xs) past
-
--- the four numbers of block i stand within the slice
-pub block-within : (n i : ℕ) → i < n / 4 → i * 4 + 3 < n
-block-within n i h = omega arith
 
 -- ---- blocks that are sound so far
 

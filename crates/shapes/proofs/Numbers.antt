@@ -1,16 +1,16 @@
 -- The numbers of a shape and the shape of some numbers undo each other. Assumes nothing.
-use mathlib.Core.Path.{_≡_, refl, sym, ap, ap₂, _∙_, subst}
-use mathlib.Core.List.{List, [], _∷_, _++_}
-use Prim.Native.Nat.{ℕ, _+_, _*_, _/_, _%_, _^_, _≤_, _<_}
+use mathlib.Core.Path.{_≡_, refl, ap, _∙_}
+use mathlib.Core.List.{List, [], _∷_}
+use Prim.Native.Nat.{ℕ, _+_, _*_, _/_, _%_, _^_, _<_}
 use native.Mathlib.Omega.{arith}
 use lib.ListN.{length}
 use lib.Pow.{split, high, low}
 use Rattle.bases.specs.Base.{baseOf}
 use Rattle.bases.proofs.Laws.{one-word}
 use Rattle.shapes.specs.All.{All}
-use Rattle.shapes.specs.All.All.{none, more}
+use Rattle.shapes.specs.All.All.{more}
 use Rattle.shapes.specs.Shape.{Block}
-use Rattle.shapes.specs.Lent.{blockOf, shapeOf, wordsOf}
+use Rattle.shapes.specs.Lent.{shapeOf, wordsOf}
 
 base-back : (b : ℕ) → baseOf (b % 2 ^ 64 ∷ (b / 2 ^ 64 ∷ [])) ≡ b
 unfolding baseOf
@@ -43,8 +43,3 @@ words-shape (a ∷ (b ∷ [])) e g = absurd (let h : _≡_ {A = ℕ} 2 0 = e in 
 words-shape (a ∷ (b ∷ (c ∷ []))) e g = absurd (let h : _≡_ {A = ℕ} 3 0 = e in omega arith)
 words-shape (a ∷ (b ∷ (c ∷ (d ∷ xs)))) e (more p (more q (more r (more t g)))) =
     λ i. low-word a b p i ∷ (high-word a b p i ∷ (c ∷ (d ∷ words-shape xs (omega arith) g i)))
-
-pub shape-append : (s r : List Block) → wordsOf (s ++ r) ≡ wordsOf s ++ wordsOf r
-unfolding wordsOf
-shape-append [] r = refl
-shape-append (b ∷ s) r = ap (λ (l : List ℕ). b .base % 2 ^ 64 ∷ (b .base / 2 ^ 64 ∷ (b .lower ∷ (b .upper ∷ l)))) (shape-append s r)

@@ -1,8 +1,8 @@
 -- One block more. Assumes nothing.
 use mathlib.Core.Path.{_≡_, refl, sym, ap, _∙_, subst}
 use mathlib.Core.List.{List, [], _∷_}
-use mathlib.Core.Logic.{_⊎_, inl, inr, ⊎-elim}
-use Prim.Native.Nat.{ℕ, zero, suc, _+_, _-_, _*_, _/_, _≤_, _<_}
+use mathlib.Core.Logic.{_⊎_, ⊎-elim}
+use Prim.Native.Nat.{ℕ, zero, suc, _+_, _-_, _/_, _≤_, _<_}
 use native.Mathlib.Omega.{arith}
 use lib.ListN.{length, getD, take}
 use Rattle.bases.specs.Base.{Holds}
@@ -14,7 +14,7 @@ use Rattle.layouts.specs.Slots.{Put}
 use Rattle.layouts.proofs.Slots.{put-others}
 use Rattle.hulls.specs.Hull.{blank}
 use Rattle.order_sides.specs.Guide.{Guide}
-use Rattle.order_sides.specs.Collect.{Ends, Collected}
+use Rattle.order_sides.specs.Collect.{Collected}
 use Rattle.side_tables.specs.Board.{guideOf}
 use Rattle.side_chars.specs.declared.Held.{Held}
 use Rattle.side_chars.specs.Chars.{Takes, TakesFrom, heldOf, Holding}

@@ -1,21 +1,19 @@
 -- What the table says of a block is what the states tell of it. Assumes nothing.
-use mathlib.Core.Path.{_≡_, refl, sym, ap, _∙_, subst}
-use mathlib.Core.List.{List, [], _∷_}
-use mathlib.Core.Logic.{_⊎_, inl, inr, ⊎-elim}
+use mathlib.Core.Path.{_≡_, sym, ap, subst}
+use mathlib.Core.List.{List}
+use mathlib.Core.Logic.{_⊎_, ⊎-elim}
 use Prim.Native.Nat.{ℕ, _+_, _-_, _≤_, _<_}
 use native.Mathlib.Omega.{arith}
-use Rattle.bases.specs.Base.{Holds, Meets}
+use Rattle.bases.specs.Base.{Meets}
 use Rattle.bases.proofs.Plain.{lt-or-le}
 use Rattle.shapes.specs.Shape.{Block}
 use Rattle.shapes.specs.Lent.{blockAt}
 use Rattle.rests.proofs.Walks.{text-of, ends-within, below-character}
-use Rattle.tables.specs.Table.{look}
-use Rattle.order_sides.specs.Guide.{Guide, Clear, Even, Free}
+use Rattle.order_sides.specs.Guide.{Clear, Even, Free}
 use Rattle.order_sides.specs.Collect.{Passes, Ends}
 use Rattle.order_sides.proofs.Keeping.{state-within, not-last}
 use Rattle.side_tables.specs.Board.{guideOf}
-use Rattle.side_cells.specs.Cells.{Any, Parts, Stops, Stays}
-use Rattle.side_chars.specs.Chars.{Takes, TakesFrom}
+use Rattle.side_chars.specs.Chars.{Takes}
 use Rattle.side_lengths.specs.Lengths.{EndsBy}
 use Rattle.side_blocks.specs.Blocks.{Setting, Placed, CharsBy, freely, takes}
 

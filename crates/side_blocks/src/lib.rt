@@ -4,7 +4,6 @@ use side_chars::Held;
 ghost use mathlib.Core.Path.{_≡_};
 ghost use Prim.Native.Nat.{_+_, _/_, _≤_, _<_};
 ghost use lib.ListN.{length};
-ghost use Rattle.bases.specs.Base.{Holds};
 ghost use Rattle.shapes.specs.Lent.{meant, blockAt};
 ghost use Rattle.order_sides.specs.Collect.{Collected};
 ghost use Rattle.side_tables.specs.Board.{guideOf};

@@ -1,13 +1,13 @@
 -- A state that is looked for, from the first on. Assumes nothing.
-use mathlib.Core.Path.{_≡_, refl, sym, ap, _∙_, subst}
+use mathlib.Core.Path.{_≡_, sym, subst}
 use mathlib.Core.Bool.{Bool, true, false}
 use mathlib.Core.List.{List}
-use mathlib.Core.Logic.{_⊎_, inl, inr, ⊎-elim}
-use Prim.Native.Nat.{ℕ, _+_, _-_, _*_, _≤_, _<_}
+use mathlib.Core.Logic.{_⊎_, ⊎-elim}
+use Prim.Native.Nat.{ℕ, _+_, _-_, _≤_, _<_}
 use native.Mathlib.Omega.{arith}
 use Rattle.bases.specs.Tells.{Tells}
 use Rattle.bases.proofs.Laws.{tells-false}
-use Rattle.bases.proofs.Plain.{lt-or-le, eq-or-ne}
+use Rattle.bases.proofs.Plain.{lt-or-le}
 use Rattle.bases.specs.Base.{Meets}
 use Rattle.shapes.specs.Shape.{Block}
 use Rattle.shapes.specs.Lent.{blockAt}

@@ -5,7 +5,7 @@ ghost use Prim.Native.Nat.{_+_, _*_, _≤_, _<_};
 ghost use lib.ListN.{length};
 ghost use Rattle.bases.specs.Base.{Meets};
 ghost use Rattle.bases.specs.Tells.{Tells};
-ghost use Rattle.shapes.specs.Lent.{meant, blockAt};
+ghost use Rattle.shapes.specs.Lent.{meant};
 ghost use Rattle.tables.specs.Table.{look};
 ghost use Rattle.side_cells.specs.Cells.{Any, Parts, Stops, Stays, FirstFree};
 

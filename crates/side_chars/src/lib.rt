@@ -5,7 +5,7 @@ ghost use mathlib.Core.Logic.{_⊎_};
 ghost use Prim.Native.Nat.{_+_, _*_, _≤_, _<_};
 ghost use lib.ListN.{length};
 ghost use Rattle.bases.specs.Base.{Holds};
-ghost use Rattle.shapes.specs.Lent.{meant, blockAt};
+ghost use Rattle.shapes.specs.Lent.{meant};
 ghost use Rattle.side_cells.specs.Cells.{Any};
 ghost use Rattle.side_chars.specs.Chars.{Takes, TakesFrom, heldOf, Holding};
 

@@ -1,20 +1,20 @@
 -- Answers of one side, and the guide of a fixed text as the rule of being on its right side. Assumes nothing.
 use mathlib.Core.Path.{_≡_, refl, sym, ap, _∙_, subst}
 use mathlib.Core.Bool.{Bool, true, false}
-use mathlib.Core.List.{List, [], _∷_, _++_}
-use mathlib.Core.Logic.{_⊎_, inl, inr, ⊎-elim}
-use Prim.Native.Nat.{ℕ, _+_, _-_, _/_, _%_, _^_, _≤_, _<_}
+use mathlib.Core.List.{List}
+use mathlib.Core.Logic.{_⊎_, ⊎-elim}
+use Prim.Native.Nat.{ℕ, _+_, _-_, _/_, _%_, _^_, _<_}
 use native.Mathlib.Nat.{div-eq-of-lt, lt-of-lt-of-le}
 use native.Mathlib.Omega.{arith}
-use lib.ListN.{length, getD, take}
+use lib.ListN.{length}
 use lib.Pow.{pow-mono}
 use Rattle.bases.specs.Base.{Holds}
 use Rattle.bases.proofs.Plain.{lt-or-le}
 use Rattle.shapes.specs.All.{All, more}
-use Rattle.shapes.specs.Shape.{Block, Small, Run, Filling, done, fill, textOf}
+use Rattle.shapes.specs.Shape.{Block, Small, Filling, done, fill, textOf}
 use Rattle.shapes.specs.Lent.{shapeOf}
 use Rattle.shapes.proofs.All.{all-append, all-map}
-use Rattle.hulls.specs.Hull.{None, Hull}
+use Rattle.hulls.specs.Hull.{None}
 use Rattle.hulls.proofs.Hull.{same-rule, same-none}
 use Rattle.extremes.specs.declared.Direction.{Direction}
 use Rattle.order_sides.specs.Guide.{Guide, Kept, Ended}

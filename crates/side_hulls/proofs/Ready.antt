@@ -1,34 +1,30 @@
 -- A shape that is laid out, its blocks and its output. Assumes nothing.
 use mathlib.Core.Path.{_≡_, refl, sym, ap, _∙_, subst}
-use mathlib.Core.Bool.{Bool, true, false}
-use mathlib.Core.List.{List, [], _∷_, _++_}
+use mathlib.Core.List.{List, _++_}
 use mathlib.Core.Logic.{_⊎_, inl, inr, ⊎-elim}
-use Prim.Native.Nat.{ℕ, _+_, _-_, _*_, _/_, _%_, _^_, _≤_, _<_}
-use native.Mathlib.Nat.{add-zero, zero-add}
+use Prim.Native.Nat.{ℕ, _+_, _-_, _*_, _/_, _^_, _<_}
 use native.Mathlib.Omega.{arith}
 use lib.ListN.{length, getD, take, drop, length-drop, take-append-drop}
 use lib.Seq.{ext-getD, getD-take, getD-drop, length-take-le}
-use Rattle.bases.specs.Base.{Holds, Empty}
-use Rattle.shapes.specs.All.{All}
+use Rattle.bases.specs.Base.{Empty}
 use Rattle.bases.proofs.Plain.{lt-or-le}
-use Rattle.shapes.specs.Shape.{Block, Sound, total}
+use Rattle.shapes.specs.Shape.{Block, total}
 use Rattle.shapes.specs.Lent.{blockAt, shapeOf, wordsOf}
-use Rattle.shapes.proofs.All.{all-of, all-at}
+use Rattle.shapes.proofs.All.{all-of}
 use Rattle.shapes.proofs.Lent.{shape-length, shape-at, block-sound}
 use Rattle.shapes.proofs.Numbers.{words-shape}
-use Rattle.hulls.specs.Hull.{None, Hull, blank}
+use Rattle.hulls.specs.Hull.{None, blank}
 use Rattle.rests.specs.Walk.{Bounded}
 use Rattle.rests.proofs.Laid.{Slots}
 use Rattle.layouts.proofs.Slots.{laid-bounded, blocks-same}
-use Rattle.tables.specs.Table.{look, Same-rest}
-use Rattle.equals.specs.Inner.{Whole}
+use Rattle.tables.specs.Table.{Same-rest}
 use Rattle.order_sides.specs.Guide.{Guide, Kept, Clear}
 use Rattle.order_sides.specs.Collect.{Ends, Collected}
 use Rattle.order_sides.proofs.Runs.{Spot}
 use Rattle.order_sides.proofs.Side.{laid-slots, spot, side-none, side-ends, side-hull}
 use Rattle.side_tables.specs.Board.{guideOf, Board, ClearFrom}
 use Rattle.side_blocks.specs.Blocks.{Placed, Ending, Laid, Narrowed}
-use Rattle.side_hulls.specs.Narrowed.{OneNarrowed, One, Ready}
+use Rattle.side_hulls.specs.Narrowed.{OneNarrowed, Ready}
 
 -- the cell of the starts tells whether some text is on the right side
 pub some-clear : {X : ℕ → Block} {G : Guide} {n m : ℕ} {w : List ℕ} → ClearFrom X G n m 0 w → (getD w 0 0 ≡ 0 → ⊥) → Clear X G n 0 0

@@ -1,7 +1,6 @@
 // One shape narrowed by what is on the right side of a fixed text.
 use extremes::Direction;
-ghost use mathlib.Core.Path.{_≡_};
-ghost use Prim.Native.Nat.{_≤_, _<_};
+ghost use Prim.Native.Nat.{_≤_};
 ghost use lib.ListN.{length, take};
 ghost use Rattle.shapes.specs.Shape.{textOf};
 ghost use Rattle.shapes.specs.Lent.{blockAt};

@@ -1,7 +1,7 @@
 -- The lengths of a run in texts on the right side, read from the table.
 use mathlib.Core.Path.{_≡_}
 use mathlib.Core.List.{List}
-use Prim.Native.Nat.{ℕ, _+_, _≤_, _<_}
+use Prim.Native.Nat.{ℕ, _+_, _≤_}
 use Rattle.shapes.specs.Shape.{Block}
 use Rattle.side_cells.specs.Cells.{Any, Stops, Stays}
 

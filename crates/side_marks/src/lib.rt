@@ -1,6 +1,5 @@
 // The table of a shape and a fixed text, second pass: the cells up to which some text matches are marked.
 use shapes::Words;
-ghost use mathlib.Core.Path.{_≡_};
 ghost use Prim.Native.Nat.{_+_, _*_, _≤_, _<_};
 ghost use Rattle.shapes.specs.Lent.{blockAt};
 ghost use Rattle.tables.specs.Table.{look, Same-rest};

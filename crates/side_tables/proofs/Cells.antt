@@ -1,12 +1,12 @@
 -- The cells that say whether some rest keeps to the right side. Assumes nothing.
-use mathlib.Core.Path.{_≡_, refl, sym, ap, _∙_, subst}
-use mathlib.Core.List.{List, [], _∷_}
-use mathlib.Core.Logic.{_⊎_, inl, inr, ⊎-elim}
-use Prim.Native.Nat.{ℕ, zero, suc, _+_, _-_, _*_, _≤_, _<_}
+use mathlib.Core.Path.{_≡_, sym, ap, _∙_, subst}
+use mathlib.Core.List.{List}
+use mathlib.Core.Logic.{_⊎_, ⊎-elim}
+use Prim.Native.Nat.{ℕ, _+_, _-_, _*_, _≤_, _<_}
 use native.Mathlib.Omega.{arith}
 use lib.ListN.{length, getD, set}
 use Rattle.bases.specs.Base.{Holds, Meets}
-use Rattle.bases.proofs.Plain.{lt-or-le, eq-or-ne}
+use Rattle.bases.proofs.Plain.{eq-or-ne}
 use Rattle.shapes.specs.Shape.{Block}
 use Rattle.shapes.specs.Lent.{blockAt}
 use Rattle.rests.specs.Walk.{Bounded}
@@ -16,7 +16,7 @@ use Rattle.tables.proofs.Cells.{one-index, set-here, set-there}
 use Rattle.tables.proofs.Finish.{says-map}
 use Rattle.order_sides.specs.Guide.{Guide, Clear, Ended}
 use Rattle.order_sides.proofs.Keeping.{not-last}
-use Rattle.side_tables.specs.Board.{guideOf, Board, Onward, at-end, by-run, by-same, by-apart, Near, ClearFrom}
+use Rattle.side_tables.specs.Board.{Board, Onward, at-end, by-run, by-same, by-apart, Near, ClearFrom}
 
 pub board-long : {xs next parts : List ℕ} {n m : ℕ} {w w′ : List ℕ} → Board xs next parts n m w → Same-rest w w′ → Board xs next parts n m w′
 board-long g s = record {

@@ -1,6 +1,5 @@
 // The table of a shape and a fixed text, first pass: for each position and number of characters matched whether some rest keeps to the right side.
 use shapes::Words;
-ghost use mathlib.Core.Path.{_≡_};
 ghost use Prim.Native.Nat.{_+_, _*_, _≤_, _<_};
 ghost use lib.ListN.{length};
 ghost use Rattle.shapes.specs.Lent.{meant, blockAt};

@@ -25,9 +25,6 @@ fn run(input: &[u8]) {
     while at < input.len() {
         let end = find(input, at, b'\n');
         case(&input[at..end]);
-        if end == input.len() {
-            return;
-        }
         at = end + 1;
     }
 }

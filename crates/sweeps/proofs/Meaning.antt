@@ -1,13 +1,12 @@
 -- What the sweep hands back means what document 01 says. Assumes nothing.
-use mathlib.Core.Path.{_≡_, refl, sym, ap, _∙_, subst}
+use mathlib.Core.Path.{_≡_, refl, sym, _∙_, subst}
 use mathlib.Core.List.{List, [], _∷_, _++_}
 use Prim.Native.Nat.{ℕ, zero, suc, _+_, _*_, _≤_, _<_}
 use native.Mathlib.Omega.{arith}
 use lib.ListN.{length, getD, drop}
-use Rattle.answers.specs.declared.Swept.{Swept}
-use Rattle.shapes.specs.Shape.{Block, Filling, textOf, Fits}
+use Rattle.shapes.specs.Shape.{Block}
 use Rattle.sweep_steps.specs.Places.{at}
-use Rattle.sweep_steps.specs.Names.{startOf, AtOrBefore, Latest}
+use Rattle.sweep_steps.specs.Names.{AtOrBefore}
 use Rattle.sweep_steps.specs.Steps.{Found, places, cannot, looksOf, sweepOf, numbers}
 use Rattle.sweep_steps.specs.declared.Place.{Place}
 use Rattle.sweep_steps.proofs.Looks.{looks-bounded}

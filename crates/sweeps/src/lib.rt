@@ -79,6 +79,21 @@ fn stretch_look(s: Words, t: Words, o: Offset, k: u64) -> StretchLook
     StretchLook::Ends(o)
 }
 
+// What push comes to at block i and offset o.
+fn pushed(start: Place, i: BlockNumber, o: Offset, left: u64, looks: u64) -> Pushed
+    ensures { λ r. ⌜ r ≡ record { start = start; end = record { block = i; offset = o }; left = left; looks = looks } ⌝ }
+{
+    Pushed {
+        start: start,
+        end: Place {
+            block: i,
+            offset: o,
+        },
+        left: left,
+        looks: looks,
+    }
+}
+
 // Push a block in the shape y from a place.
 fn push(s: Words, y: &[u64], from: Place) -> Pushed
     requires { ⌜ 1 ≤ numberOf from ⌝ }
@@ -93,30 +108,12 @@ fn push(s: Words, y: &[u64], from: Place) -> Pushed
     let mut looks: u64 = 0;
     while i.0 <= m {
         if k == 0 {
-            return Pushed {
-                start: start,
-                end: Place {
-                    block: i,
-                    offset: o,
-                },
-                left: k,
-                looks: looks,
-            };
+            return pushed(start, i, o, k, looks);
         }
         let look = push_look(s, block(y, i), o, k);
         looks += 1; // block i of y
         match look {
-            PushLook::Ends(e) => {
-                return Pushed {
-                    start: start,
-                    end: Place {
-                        block: i,
-                        offset: e,
-                    },
-                    left: 0,
-                    looks: looks,
-                };
-            }
+            PushLook::Ends(e) => return pushed(start, i, e, 0, looks),
             PushLook::Restarts => {
                 i = BlockNumber(i.0 + 1);
                 o = Offset(0);
@@ -133,15 +130,7 @@ fn push(s: Words, y: &[u64], from: Place) -> Pushed
             }
         }
     }
-    Pushed {
-        start: start,
-        end: Place {
-            block: i,
-            offset: o,
-        },
-        left: k,
-        looks: looks,
-    }
+    pushed(start, i, o, k, looks)
 }
 
 // Stretch a block in the reversed shape y from a place of it.

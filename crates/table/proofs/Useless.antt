@@ -1,5 +1,5 @@
 -- Document 01, "What the stated promises have to settle": useless builds are shut out by the rows, since an outcome is determined. Assumes nothing.
-use mathlib.Core.Path.{_≡_, sym, ap, _∙_}
+use mathlib.Core.Path.{_≡_, ap, _∙_}
 use mathlib.Core.List.{List, [], _∷_}
 use Prim.Native.Nat.{ℕ, _+_}
 use native.Mathlib.Omega.{arith}

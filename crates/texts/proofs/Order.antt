@@ -1,11 +1,10 @@
 -- The order of texts is total, and "before" is its strict part. Assumes nothing.
-use mathlib.Core.Path.{_≡_, refl, sym, ap, ap₂, _∙_, subst}
-use mathlib.Core.List.{List, [], _∷_, _++_}
+use mathlib.Core.Path.{_≡_, refl, ap, subst}
+use mathlib.Core.List.{List, [], _∷_}
 use mathlib.Core.Logic.{_⊎_, inl, inr, ⊎-elim}
-use Prim.Native.Nat.{ℕ, zero, suc, _+_, _≤_, _<_}
+use Prim.Native.Nat.{ℕ, _≤_, _<_}
 use native.Mathlib.Nat.{lt-trans}
 use native.Mathlib.Omega.{arith}
-use lib.ListN.{length}
 use Rattle.bases.proofs.Plain.{lt-or-le}
 use Rattle.texts.specs.Order.{AtMost, Before}
 use Rattle.texts.specs.Order.AtMost.{ends as at-ends, less as at-less, same as at-same}

@@ -1,5 +1,4 @@
 -- Document 01, "Shapes and fillings": texts are ordered by code; the end comes before every character (003).
-use mathlib.Core.Path.{_≡_}
 use mathlib.Core.List.{List, [], _∷_}
 use Prim.Native.Nat.{ℕ, _<_}
 

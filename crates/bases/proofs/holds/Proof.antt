@@ -1,10 +1,9 @@
 -- `bases::holds` tells what the word with the character's bit says; no word has a bit for a byte above 127. Assumes nothing.
-use mathlib.Core.Path.{_≡_, sym, ap, _∙_}
+use mathlib.Core.Path.{sym, _∙_}
 use mathlib.Core.List.{[], _∷_}
-use Prim.Native.Nat.{ℕ, _+_, _-_, _/_, _%_, _^_, _≤_}
-use native.Mathlib.Omega.{arith}
+use Prim.Native.Nat.{_-_}
 use borrow.Author.Needs.{needs}
-use Rattle.bases.specs.Base.{Holds, baseOf}
+use Rattle.bases.specs.Base.{Holds}
 use Rattle.bases.proofs.Laws.{first-word, second-word, no-word, tells-bit, tells-false}
 use Rattle.bases.proofs.holds.Statement.{statement}
 use Rattle.bases.proofs.holds.Tie as tie

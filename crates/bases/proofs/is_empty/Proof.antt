@@ -1,5 +1,4 @@
 -- `bases::is_empty`: a base is empty exactly if both of its words are 0. Assumes nothing.
-use mathlib.Core.Path.{_≡_, sym, ap, _∙_}
 use borrow.Author.Tests.{eqb-true, eqb-false}
 use Rattle.bases.proofs.Laws.{empty-words, words-empty, tells-false}
 use Rattle.bases.proofs.is_empty.Statement.{statement}

@@ -1,17 +1,17 @@
 -- `book_runs::apply_rule`: the two texts of the rule are narrowed, and what comes of them is laid over their places. Assumes nothing.
-use mathlib.Core.Path.{_≡_, refl, sym, ap, _∙_, subst}
-use mathlib.Core.List.{List, _++_}
-use Prim.Native.Nat.{ℕ, _+_, _-_, _*_, _^_, _≤_, _<_}
+use mathlib.Core.Path.{_≡_, sym, _∙_, subst}
+use mathlib.Core.List.{List}
+use Prim.Native.Nat.{ℕ, _-_, _^_, _<_}
 use native.Mathlib.Omega.{arith}
 use borrow.Author.Needs.{needs}
-use lib.ListN.{length, take, drop}
+use lib.ListN.{length, take}
 use lib.Seq.{length-take-le}
 use Rattle.shapes.specs.All.{All}
 use Rattle.shapes.specs.Lent.{shapeOf, Accepted}
 use Rattle.shapes.proofs.All.{all-of}
 use Rattle.hulls.specs.Hull.{None, Hull}
-use Rattle.books.specs.Rules.{Triple, RightRule, ruleAt, asks}
-use Rattle.books.specs.Code.{meantRule, numbersIn}
+use Rattle.books.specs.Rules.{Triple, RightRule, asks}
+use Rattle.books.specs.Code.{meantRule}
 use Rattle.book_runs.specs.Runner.{NarrowSays}
 use Rattle.books.proofs.Part.{place-part}
 use Rattle.book_runs.proofs.Standing.{text-accepted}

@@ -1,16 +1,15 @@
 -- `book_runs::run_book`: the check, then the rounds over a copy of the blocks, which is laid back where the shapes are stable. Assumes nothing.
 use mathlib.Core.Path.{_≡_, refl, sym, ap, _∙_, subst}
 use mathlib.Core.List.{List, _++_}
-use Prim.Native.Nat.{ℕ, _+_, _*_, _/_, _%_, _^_, _≤_, _<_}
+use Prim.Native.Nat.{ℕ, _+_, _%_, _^_, _≤_, _<_}
 use native.Mathlib.Omega.{arith}
 use borrow.Author.Needs.{needs}
 use lib.ListN.{length, take, drop, length-append}
-use lib.Seq.{take-at, length-take-le}
+use lib.Seq.{take-at}
 use Rattle.shapes.specs.All.{All}
 use Rattle.shapes.specs.Lent.{shapeOf, wordsOf}
 use Rattle.shapes.proofs.All.{all-of}
 use Rattle.shapes.proofs.Numbers.{words-shape}
-use Rattle.books.specs.Counts.{sumOf}
 use Rattle.books.specs.Refused.{BookAccepted, BookChecked}
 use Rattle.book_runs.specs.Code.{replaced, Standing}
 use Rattle.book_runs.specs.Runner.{EndedSays}

@@ -1,8 +1,8 @@
 -- `book_runs::run_rounds`: at the head of a turn the runner stands before rule k with what it has made so far. Assumes nothing.
 use mathlib.Core.Path.{_≡_, refl, sym, ap, _∙_, subst}
-use mathlib.Core.Bool.{Bool, true, false}
+use mathlib.Core.Bool.{Bool, true}
 use mathlib.Core.List.{List}
-use Prim.Native.Nat.{ℕ, _+_, _-_, _*_, _/_, _^_, _≤_, _<_}
+use Prim.Native.Nat.{ℕ, _+_, _-_, _*_, _/_, _≤_, _<_}
 use native.Mathlib.Omega.{arith}
 use borrow.Author.Needs.{needs}
 use borrow.Author.Tests.{not-true, not-false}
@@ -11,7 +11,7 @@ use Rattle.shapes.specs.All.{All}
 use Rattle.shapes.specs.Shape.{Small}
 use Rattle.shapes.specs.Lent.{shapeOf}
 use Rattle.book_runs.specs.Room.{roomOf}
-use Rattle.books.specs.Rules.{ruleCount, ruleOf}
+use Rattle.books.specs.Rules.{ruleOf}
 use Rattle.book_runs.specs.Code.{Standing, owed, Made}
 use Rattle.book_runs.specs.Runner.{AppliedSays}
 use Rattle.hulls.proofs.Hull.{hull-within}
@@ -22,10 +22,6 @@ use Rattle.book_runs.proofs.Standing.{few-blocks, blocks-size, blocks-s
 use Rattle.book_runs.proofs.Made.{made-start, made-most, made-none, made-same, made-changed, made-round, made-stable, made-count, cleared-stays}
 use Rattle.book_runs.proofs.run_rounds.Statement.{statement}
 use Rattle.book_runs.proofs.run_rounds.Tie as tie
-use Rattle.book_runs.proofs.run_rounds.Reads as reads
-use Rattle.book_runs.proofs.run_rounds.Lts as lts
-use Rattle.book_runs.proofs.apply_rule.Reads as apply-rule-reads
-use Rattle.equals.proofs.clear.Reads as clear-reads
 
 abbrev Inv-loop : tie.InvT-loop
 Inv-loop counts numbers₀ rules work₀ n k₀ changed₀ made₀ numbers work k changed made =

@@ -1,6 +1,5 @@
 -- `extremes::char_of`: the least or the greatest, as asked. Assumes nothing.
-use mathlib.Core.Path.{_≡_, refl, sym, ap, ap₂, _∙_, subst}
-use native.Mathlib.Omega.{arith}
+use mathlib.Core.Path.{sym, ap, _∙_}
 use borrow.Author.Needs.{needs}
 use Rattle.extremes.specs.declared.Direction.{Direction}
 use mathlib.Core.List.{[], _∷_}

@@ -1,15 +1,12 @@
 -- `extremes::choices`: from the last block to the first, each choice is that of the steps. Assumes nothing.
 use mathlib.Core.Path.{_≡_, refl, sym, ap, _∙_, subst}
-use mathlib.Core.List.{List, [], _∷_}
 use Prim.Native.Nat.{ℕ, _+_, _-_, _/_, _≤_, _<_}
 use native.Mathlib.Omega.{arith}
-use borrow.Author.Needs.{needs}
 use lib.ListN.{length, drop}
-use Rattle.shapes.specs.Shape.{Block, Sound}
-use Rattle.shapes.specs.Lent.{shapeOf, meant, blockAt}
+use Rattle.shapes.specs.Shape.{Sound}
+use Rattle.shapes.specs.Lent.{shapeOf, meant}
 use Rattle.shapes.proofs.Lent.{block-sound}
-use Rattle.extremes.specs.declared.Successor.{Successor}
-use Rattle.extremes.specs.Steps.{successor, taken, after}
+use Rattle.extremes.specs.Steps.{successor, taken}
 use Rattle.extremes.specs.Code.{Chosen}
 use Rattle.extremes.proofs.Steps.{none-chosen, one-chosen, successor-end, turn-count, turn-successor}
 use Rattle.extremes.proofs.choices.Statement.{statement}

@@ -1,6 +1,5 @@
 -- `extremes::follow`: the successor of the steps. Assumes nothing.
-use mathlib.Core.Path.{_≡_, refl, sym, ap, ap₂, _∙_, subst}
-use native.Mathlib.Omega.{arith}
+use mathlib.Core.Path.{sym, _∙_}
 use borrow.Author.Needs.{needs}
 use Rattle.shapes.specs.Lent.{meant}
 use Rattle.extremes.proofs.Steps.{takes-character, after-none, after-some}

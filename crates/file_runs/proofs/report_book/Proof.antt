@@ -1,13 +1,13 @@
 -- `file_runs::report_book`: the run of the book, then the report of its answer. Assumes nothing.
 use mathlib.Core.Path.{_≡_, ap, _∙_, subst}
-use Prim.Native.Nat.{ℕ, _^_, _≤_, _<_}
+use Prim.Native.Nat.{ℕ, _^_, _<_}
 use native.Mathlib.Omega.{arith}
 use lib.ListN.{length, length-replicate}
 use Rattle.shapes.specs.All.{All}
 use Rattle.shapes.proofs.All.{all-of}
 use Rattle.answers.specs.declared.Ran.{Ran}
-use Rattle.answers.specs.declared.Ran.the-variants.{Stable, None, Refused}
-use Rattle.book_runs.specs.Walk.{RunPromise, RunStable}
+use Rattle.answers.specs.declared.Ran.the-variants.{Stable}
+use Rattle.book_runs.specs.Walk.{RunPromise}
 use Rattle.file_runs.proofs.Ends.{ends-refused, ends-none, ends-stable, final-right, few-numbers}
 use borrow.Author.Needs.{needs}
 use Rattle.file_runs.proofs.report_book.Statement.{statement}

@@ -1,14 +1,12 @@
 -- `file_runs::report_file`: the book that the file is the writing of, and its report. Assumes nothing.
-use mathlib.Core.Path.{_≡_, refl, sym, ap, _∙_, subst}
-use Prim.Native.Nat.{ℕ, _+_, _*_, _%_, _^_, _≤_, _<_}
+use mathlib.Core.Path.{sym, subst}
 use native.Mathlib.Omega.{arith}
-use lib.ListN.{length, take, length-take}
 use lib.Seq.{length-take-le}
 use Rattle.answers.specs.Told.{told}
 use Rattle.reports.specs.Report.Verdict.{refused}
 use Rattle.file_runs.specs.Ends.FileEnds.{no-book}
 use Rattle.file_runs.proofs.Ends.{file-of}
-use Rattle.files.specs.Promise.{ReadPromise, BookRead}
+use Rattle.files.specs.Promise.{ReadPromise}
 use Rattle.files.proofs.Ready.{Ready, ready}
 use borrow.Author.Needs.{needs}
 use Rattle.file_runs.proofs.report_file.Statement.{statement}

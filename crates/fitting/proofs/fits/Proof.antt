@@ -1,9 +1,7 @@
 -- `fitting::fits`: the shape first, then the text. Assumes nothing.
-use mathlib.Core.Path.{_≡_, subst}
-use Prim.Native.Nat.{_≤_}
+use mathlib.Core.Path.{subst}
 use native.Mathlib.Omega.{arith}
 use borrow.Author.Needs.{needs}
-use lib.ListN.{length}
 use Rattle.shapes.specs.Lent.{Accepted, ShapeChecked}
 use Rattle.shapes.proofs.Fits.{fits-length}
 use Rattle.fitting.proofs.fits.Statement.{statement}

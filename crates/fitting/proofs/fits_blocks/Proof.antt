@@ -1,13 +1,13 @@
 -- `fitting::fits_blocks`: the row of the blocks from i on, from the last block to the first. Assumes nothing.
-use mathlib.Core.Path.{_≡_, refl, sym, ap, _∙_, subst}
+use mathlib.Core.Path.{_≡_, refl, sym, _∙_, subst}
 use mathlib.Core.List.{List, [], _∷_}
-use Prim.Native.Nat.{ℕ, _+_, _-_, _/_, _≤_, _<_}
+use Prim.Native.Nat.{ℕ, _+_, _-_, _/_, _≤_}
 use native.Mathlib.Omega.{arith}
 use borrow.Author.Needs.{needs, zero≤}
 use lib.ListN.{length, drop}
 use Rattle.bases.proofs.Laws.{tells-bit}
-use Rattle.shapes.specs.Shape.{Block, Sound, Fits}
-use Rattle.shapes.specs.Lent.{shapeOf, meant, blockAt}
+use Rattle.shapes.specs.Shape.{Block, Sound}
+use Rattle.shapes.specs.Lent.{shapeOf, meant}
 use Rattle.shapes.proofs.Lent.{shape-from, none-left, block-sound}
 use Rattle.fitting.specs.Rows.{Row}
 use Rattle.fitting.proofs.fits_blocks.Statement.{statement}

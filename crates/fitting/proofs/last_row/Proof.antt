@@ -1,6 +1,5 @@
 -- `fitting::last_row`: one mark, at the end. Assumes nothing.
-use mathlib.Core.Path.{_≡_, sym}
-use native.Mathlib.Omega.{arith}
+use mathlib.Core.Path.{sym}
 use borrow.Author.Needs.{needs}
 use Rattle.fitting.proofs.Rows.{row-of-end}
 use Rattle.fitting.proofs.last_row.Statement.{statement}

@@ -1,11 +1,11 @@
 -- `fitting::row_before`: from the end to the start, each mark says what the block reaches. Assumes nothing.
-use mathlib.Core.Path.{_≡_, refl, sym, ap, _∙_, subst}
+use mathlib.Core.Path.{_≡_, subst}
 use Prim.Native.Nat.{ℕ, _+_, _-_, _≤_, _<_}
 use native.Mathlib.Omega.{arith}
 use borrow.Author.Needs.{needs}
-use lib.ListN.{length, replicate}
+use lib.ListN.{length}
 use Rattle.shapes.specs.Lent.{meant}
-use Rattle.fitting.specs.Rows.{Says, Row, RunEnd, Nearest, Reaches}
+use Rattle.fitting.specs.Rows.{RunEnd, Nearest}
 use Rattle.fitting.proofs.Rows.{MarkedFrom, marked-next, marked-none, near-none, near-after, reaches, reached, row-next, says-map}
 use Rattle.fitting.proofs.row_before.Statement.{statement}
 use Rattle.fitting.proofs.row_before.Tie as tie

@@ -1,8 +1,6 @@
 -- `guides::greatest_slot`: past the end every character, else those above. Assumes nothing.
 use mathlib.Core.Path.{refl}
-use Prim.Native.Nat.{_+_, _≤_, _<_}
 use native.Mathlib.Omega.{arith}
-use lib.ListN.{getD}
 use Rattle.guides.proofs.Slots.{greatest-ended, greatest-here}
 use borrow.Author.Needs.{needs}
 use Rattle.guides.proofs.greatest_slot.Statement.{statement}

@@ -1,8 +1,8 @@
 -- `guides::guide`: the states before q are shown. Assumes nothing.
-use mathlib.Core.Path.{_≡_, refl, sym, _∙_}
+use mathlib.Core.Path.{refl, sym, _∙_}
 use Prim.Native.Nat.{_+_, _-_, _≤_}
 use native.Mathlib.Omega.{arith}
-use lib.ListN.{length, take}
+use lib.ListN.{take}
 use Rattle.guides.specs.Shown.{GuideTo}
 use Rattle.guides.proofs.Slots.{guide-none, guide-more, guide-to}
 use borrow.Author.Needs.{needs}

@@ -1,6 +1,5 @@
 -- `guides::least_slot`: past the end nothing, else the characters below. Assumes nothing.
 use mathlib.Core.Path.{refl}
-use Prim.Native.Nat.{_<_}
 use native.Mathlib.Omega.{arith}
 use Rattle.side_chars.proofs.Chars.{held-none}
 use Rattle.guides.proofs.Slots.{least-ended, least-here}

@@ -1,10 +1,8 @@
 -- `guides::next_slot`: past the end nothing, else the one character. Assumes nothing.
 use mathlib.Core.Path.{refl}
-use Prim.Native.Nat.{_<_}
 use native.Mathlib.Omega.{arith}
 use Rattle.side_chars.proofs.Chars.{held-none}
 use Rattle.guides.proofs.Slots.{next-ended, next-here}
-use borrow.Author.Needs.{needs}
 use Rattle.guides.proofs.next_slot.Statement.{statement}
 use Rattle.guides.proofs.next_slot.Tie as tie
 

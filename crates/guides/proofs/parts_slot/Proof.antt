@@ -1,5 +1,4 @@
 -- `guides::parts_slot`: downwards or upwards, as asked. Assumes nothing.
-use mathlib.Core.Path.{_≡_}
 use Rattle.guides.proofs.Slots.{parts-as}
 use borrow.Author.Needs.{needs}
 use Rattle.guides.proofs.parts_slot.Statement.{statement}

@@ -1,5 +1,5 @@
 -- `kinds::narrow`: the refusals of a pair, then the work. Assumes nothing.
-use mathlib.Core.Path.{_≡_, refl, subst}
+use mathlib.Core.Path.{refl, subst}
 use borrow.Author.Needs.{needs}
 use lib.ListN.{length}
 use Rattle.pairs.specs.Pair.{PairAccepted, Room, NarrowChecked}

@@ -1,6 +1,6 @@
 -- `masks::from`: word by word. Assumes nothing.
-use mathlib.Core.Path.{_≡_, refl}
-use Prim.Native.Nat.{ℕ, _-_, _^_, _<_, _≤_}
+use mathlib.Core.Path.{refl}
+use Prim.Native.Nat.{_-_}
 use native.Mathlib.Omega.{arith}
 use Rattle.masks.proofs.Words.{two-words, zero-bits}
 use borrow.Author.Needs.{needs}

@@ -1,6 +1,5 @@
 -- `masks::ones`: a one, shifted, less one. Assumes nothing.
-use mathlib.Core.Path.{_≡_}
-use Prim.Native.Nat.{ℕ, _<_}
+use Prim.Native.Nat.{_<_}
 use native.Mathlib.Omega.{arith}
 use Rattle.masks.proofs.Words.{one-shl, one-pos, ones-of, all-ones}
 use borrow.Author.Needs.{needs}

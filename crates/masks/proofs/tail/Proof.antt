@@ -1,6 +1,5 @@
 -- `masks::tail`: all bits, less those below k. Assumes nothing.
-use mathlib.Core.Path.{_≡_}
-use Prim.Native.Nat.{ℕ, _<_}
+use Prim.Native.Nat.{_<_}
 use native.Mathlib.Omega.{arith}
 use Rattle.masks.proofs.Words.{one-shl, one-pos, one-tail, tail-of, tail-none}
 use borrow.Author.Needs.{needs}

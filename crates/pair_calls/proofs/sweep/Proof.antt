@@ -1,10 +1,7 @@
 -- `pair_calls::sweep`: the shapes, the room, the steps. Assumes nothing.
-use mathlib.Core.Path.{_≡_, refl, subst}
-use Prim.Native.Nat.{_*_, _≤_}
+use mathlib.Core.Path.{refl, subst}
 use native.Mathlib.Omega.{arith}
 use borrow.Author.Needs.{needs}
-use lib.ListN.{length}
-use Rattle.shapes.specs.Lent.{shapeOf}
 use Rattle.shapes.proofs.Lent.{shape-length}
 use Rattle.pairs.specs.Pair.{PairAccepted, PairChecked}
 use Rattle.pair_calls.specs.Sweep.SweepRefused.{shapes, output}

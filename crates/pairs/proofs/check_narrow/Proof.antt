@@ -1,5 +1,5 @@
 -- `pairs::check_narrow`: the shapes, then the room. Assumes nothing.
-use mathlib.Core.Path.{_≡_, subst}
+use mathlib.Core.Path.{subst}
 use borrow.Author.Needs.{needs}
 use Rattle.pairs.specs.Pair.{PairChecked}
 use Rattle.pairs.specs.Pair.NarrowRefused.{shapes}

@@ -1,5 +1,5 @@
 -- `pairs::check_pair`: the first shape, then the second. Assumes nothing.
-use mathlib.Core.Path.{_≡_, subst}
+use mathlib.Core.Path.{subst}
 use borrow.Author.Needs.{needs}
 use Rattle.shapes.specs.Lent.{ShapeChecked}
 use Rattle.pairs.specs.Pair.PairRefused.{first}

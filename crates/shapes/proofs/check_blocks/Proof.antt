@@ -1,9 +1,7 @@
 -- `shapes::check_blocks`: the first block that is not sound, then the total. Assumes nothing.
-use mathlib.Core.Path.{_≡_, refl}
+use mathlib.Core.Path.{refl}
 use native.Mathlib.Omega.{arith}
-use Prim.Native.Nat.{_/_, _<_}
 use borrow.Author.Needs.{needs}
-use lib.ListN.{length}
 use Rattle.shapes.specs.All.{All}
 use Rattle.shapes.specs.Shape.{Sound}
 use Rattle.shapes.specs.Lent.{shapeOf}

@@ -1,5 +1,5 @@
 -- `shapes::check_lent`: the length first, then the blocks. Assumes nothing.
-use mathlib.Core.Path.{_≡_, refl}
+use mathlib.Core.Path.{refl}
 use native.Mathlib.Omega.{arith}
 use borrow.Author.Needs.{needs}
 use Rattle.shapes.specs.Lent.ShapeRefused.{wrong-length}

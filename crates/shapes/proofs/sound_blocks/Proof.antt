@@ -1,17 +1,15 @@
 -- `shapes::sound_blocks`: every block passed is sound. Assumes nothing.
-use mathlib.Core.Path.{_≡_, sym, ap, _∙_, subst}
-use mathlib.Core.List.{List}
-use Prim.Native.Nat.{ℕ, _+_, _-_, _/_, _≤_, _<_}
+use mathlib.Core.Path.{_≡_, sym, _∙_, subst}
+use Prim.Native.Nat.{ℕ, _-_, _/_, _≤_, _<_}
 use native.Mathlib.Omega.{arith}
 use borrow.Author.Needs.{needs}
 use borrow.Author.Tests.{not-true, not-false}
-use lib.ListN.{length, getD, take}
+use lib.ListN.{length, take}
 use Rattle.shapes.specs.All.{All}
 use Rattle.shapes.specs.All.All.{none}
-use Rattle.shapes.specs.Shape.{Block, Sound}
-use Rattle.shapes.specs.Lent.{shapeOf, blockAt}
-use Rattle.shapes.proofs.All.{all-one-more, all-take}
-use Rattle.shapes.proofs.Lent.{shape-length, shape-at, one-more-sound}
+use Rattle.shapes.specs.Shape.{Sound}
+use Rattle.shapes.specs.Lent.{shapeOf}
+use Rattle.shapes.proofs.Lent.{shape-at, one-more-sound}
 use Rattle.shapes.proofs.sound_blocks.Statement.{statement}
 use Rattle.shapes.proofs.sound_blocks.Tie as tie
 

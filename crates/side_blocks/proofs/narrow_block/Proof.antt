@@ -1,7 +1,6 @@
 -- `side_blocks::narrow_block`: characters, least and greatest length. Assumes nothing.
 use native.Mathlib.Omega.{arith}
 use Rattle.side_blocks.proofs.Blocks.{some-length, collected}
-use borrow.Author.Needs.{needs}
 use Rattle.side_blocks.proofs.narrow_block.Statement.{statement}
 use Rattle.side_blocks.proofs.narrow_block.Tie as tie
 

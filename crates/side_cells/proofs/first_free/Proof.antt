@@ -1,6 +1,6 @@
 -- `side_cells::first_free`: no text may part at a position before i. Assumes nothing.
 use mathlib.Core.Path.{refl, sym}
-use Prim.Native.Nat.{_+_, _-_, _≤_}
+use Prim.Native.Nat.{_-_, _≤_}
 use native.Mathlib.Omega.{arith}
 use Rattle.side_cells.proofs.Cells.{NotYet, not-yet, nor-this, PartsAt, any-at, free-found, free-not-found}
 use borrow.Author.Needs.{needs}

@@ -1,5 +1,4 @@
 -- `side_cells::stays_here`: the mark, the cell further on, then the bases. Assumes nothing.
-use Prim.Native.Nat.{_<_}
 use native.Mathlib.Omega.{arith}
 use Rattle.bases.proofs.Laws.{tells-false}
 use Rattle.side_cells.proofs.Cells.{tells-and-two}

@@ -1,8 +1,7 @@
 -- `side_chars::either`: word by word. Assumes nothing.
-use Prim.Native.Nat.{ℕ, _^_, _<_}
+use Prim.Native.Nat.{_^_, _<_}
 use native.Mathlib.Omega.{arith}
 use Rattle.side_chars.proofs.Chars.{held-either, either-held}
-use borrow.Author.Needs.{needs}
 use Rattle.side_chars.proofs.either.Statement.{statement}
 use Rattle.side_chars.proofs.either.Tie as tie
 

@@ -1,7 +1,6 @@
 -- `side_chars::nothing`: two zeros hold nothing. Assumes nothing.
 use mathlib.Core.Path.{refl}
 use Rattle.side_chars.proofs.Chars.{held-none}
-use borrow.Author.Needs.{needs}
 use Rattle.side_chars.proofs.nothing.Statement.{statement}
 use Rattle.side_chars.proofs.nothing.Tie as tie
 

@@ -1,5 +1,4 @@
 -- `side_chars::taken`: what parts from the fixed text, and what stays with it where the cell after is not 0. Assumes nothing.
-use Prim.Native.Nat.{ℕ, _<_}
 use native.Mathlib.Omega.{arith}
 use Rattle.side_chars.proofs.Chars.{holding-map, holding-either, none-taken, apart-takes, takes-apart, either-takes, takes-either}
 use borrow.Author.Needs.{needs}

@@ -1,6 +1,6 @@
 -- `side_chars::taken_at`: the characters of the states before q. Assumes nothing.
 use mathlib.Core.Path.{refl}
-use Prim.Native.Nat.{ℕ, _+_, _-_, _≤_}
+use Prim.Native.Nat.{_+_, _-_, _≤_}
 use native.Mathlib.Omega.{arith}
 use Rattle.shapes.specs.Lent.{meant}
 use Rattle.side_cells.specs.Cells.{Any}

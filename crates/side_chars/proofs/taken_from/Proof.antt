@@ -1,6 +1,6 @@
 -- `side_chars::taken_from`: the characters of the positions before p + k. Assumes nothing.
-use mathlib.Core.Path.{_≡_, refl, subst}
-use Prim.Native.Nat.{ℕ, _+_, _-_, _≤_}
+use mathlib.Core.Path.{refl}
+use Prim.Native.Nat.{_+_, _-_, _≤_}
 use native.Mathlib.Omega.{arith}
 use Rattle.shapes.specs.Lent.{meant}
 use Rattle.side_chars.specs.Chars.{TakesFrom, Holding}

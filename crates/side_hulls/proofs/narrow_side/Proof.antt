@@ -1,6 +1,6 @@
 -- `side_hulls::narrow_side`: the layout, the guide, then the table. Assumes nothing.
-use mathlib.Core.Path.{_≡_, refl, sym, ap, _∙_}
-use Prim.Native.Nat.{ℕ, _+_}
+use mathlib.Core.Path.{_≡_}
+use Prim.Native.Nat.{_+_}
 use native.Mathlib.Omega.{arith}
 use lib.ListN.{length, take}
 use Rattle.shapes.specs.All.{All}
@@ -11,8 +11,6 @@ use Rattle.shapes.proofs.Lent.{small-bases}
 use Rattle.guides.specs.Shown.{GuideTo}
 use Rattle.guides.proofs.Slots.{taken-length, guide-to}
 use Rattle.guides.proofs.Sides.{guide-ended}
-use Rattle.order_sides.specs.Guide.{Ended}
-use Rattle.side_tables.specs.Board.{guideOf}
 use Rattle.side_hulls.proofs.Hulls.{one-side, ended-at}
 use borrow.Author.Needs.{needs}
 use Rattle.side_hulls.proofs.narrow_side.Statement.{statement}

@@ -1,6 +1,6 @@
 -- `side_lengths::ends_at`: free by the end, or empty, or by the last character. Assumes nothing.
-use mathlib.Core.Path.{_≡_, refl}
-use Prim.Native.Nat.{ℕ, _+_, _-_, _≤_}
+use mathlib.Core.Path.{_≡_}
+use Prim.Native.Nat.{_+_, _-_}
 use native.Mathlib.Omega.{arith}
 use Rattle.side_lengths.specs.Lengths.{freely, stops, stays}
 use Rattle.side_lengths.proofs.Lengths.{tells-yes, tells-map, of-empty, of-filled}

@@ -1,11 +1,9 @@
 -- `side_lengths::longest`: no length after n. Assumes nothing.
-use mathlib.Core.Path.{refl}
-use Prim.Native.Nat.{ℕ, _+_, _-_, _≤_}
+use Prim.Native.Nat.{_-_, _≤_}
 use native.Mathlib.Omega.{arith}
 use Rattle.shapes.specs.Lent.{meant}
 use Rattle.side_lengths.specs.Lengths.{EndsBy}
 use Rattle.side_lengths.proofs.Lengths.{NoneAbove, none-above, none-below, longest-found, longest-last}
-use borrow.Author.Needs.{needs}
 use Rattle.side_lengths.proofs.longest.Statement.{statement}
 use Rattle.side_lengths.proofs.longest.Tie as tie
 

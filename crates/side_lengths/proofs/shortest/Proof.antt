@@ -1,11 +1,10 @@
 -- `side_lengths::shortest`: no length before n. Assumes nothing.
 use mathlib.Core.Path.{refl}
-use Prim.Native.Nat.{ℕ, _+_, _-_, _≤_}
+use Prim.Native.Nat.{_-_, _≤_}
 use native.Mathlib.Omega.{arith}
 use Rattle.shapes.specs.Lent.{meant}
 use Rattle.side_lengths.specs.Lengths.{EndsBy}
 use Rattle.side_lengths.proofs.Lengths.{NoneFrom, none-from, none-next, shortest-found, shortest-last}
-use borrow.Author.Needs.{needs}
 use Rattle.side_lengths.proofs.shortest.Statement.{statement}
 use Rattle.side_lengths.proofs.shortest.Tie as tie
 

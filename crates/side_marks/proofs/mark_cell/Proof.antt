@@ -1,8 +1,6 @@
 -- `side_marks::mark_cell`: what a marked cell leads to is marked. Assumes nothing.
-use mathlib.Core.Path.{_≡_, refl, ap}
-use Prim.Native.Nat.{_+_, _*_, _≤_, _<_}
+use mathlib.Core.Path.{ap}
 use native.Mathlib.Omega.{arith}
-use lib.ListN.{length}
 use Rattle.shapes.specs.Shape.{Block}
 use Rattle.shapes.specs.Lent.{meant}
 use Rattle.tables.specs.Table.{Same-rest}

@@ -1,6 +1,5 @@
 -- `side_marks::mark_row`: what the marked cells before q lead to is marked. Assumes nothing.
-use mathlib.Core.Path.{_≡_, refl, sym}
-use Prim.Native.Nat.{ℕ, _+_, _*_, _-_, _≤_}
+use Prim.Native.Nat.{_+_, _*_, _-_, _≤_}
 use native.Mathlib.Omega.{arith}
 use Rattle.shapes.specs.Lent.{blockAt}
 use Rattle.tables.specs.Table.{Same-rest}

@@ -1,6 +1,6 @@
 -- `side_tables::clear_table`: every row from i on says what it should. Assumes nothing.
 use mathlib.Core.Path.{_≡_}
-use Prim.Native.Nat.{ℕ, _+_, _*_, _-_, _≤_}
+use Prim.Native.Nat.{_+_, _*_, _-_, _≤_}
 use native.Mathlib.Omega.{arith}
 use Rattle.shapes.specs.Lent.{blockAt}
 use Rattle.tables.specs.Table.{Same-rest}

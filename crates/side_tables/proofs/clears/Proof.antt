@@ -1,7 +1,6 @@
 -- `side_tables::clears`: each move in turn, then the ends themselves. Assumes nothing.
-use Prim.Native.Nat.{_<_}
 use native.Mathlib.Omega.{arith}
-use Rattle.side_tables.specs.Board.{Onward, at-end, by-run, by-same, by-apart}
+use Rattle.side_tables.specs.Board.{at-end, by-run, by-same, by-apart}
 use Rattle.tables.proofs.Finish.{says-one, says-zero}
 use Rattle.side_tables.proofs.Cells.{no-move}
 use borrow.Author.Needs.{needs}

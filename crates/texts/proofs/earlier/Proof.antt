@@ -1,6 +1,6 @@
 -- `texts::earlier`: up to i the texts are alike, so their order is that of their rests. Assumes nothing.
 use mathlib.Core.Path.{_≡_, refl}
-use Prim.Native.Nat.{ℕ, _+_, _-_, _≤_, _<_}
+use Prim.Native.Nat.{_-_, _≤_}
 use native.Mathlib.Omega.{arith}
 use lib.ListN.{length, getD, drop}
 use Rattle.texts.specs.Order.{AtMost, Before}
