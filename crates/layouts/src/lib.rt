@@ -65,22 +65,6 @@ fn lay_block(slots: &mut [u64], p: usize, b: Words)
     }
 }
 
-// The uppers added.
-pub fn total_upper(shape: &[u64]) -> usize
-    requires { ⌜ total (shapeOf (now shape)) ≤ 250 ⌝ }
-    ensures { λ r. ⌜ r ≡ total (shapeOf (now (shape .entry))) ⌝ }
-{
-    let n = shape.len() / 4;
-    let mut sum = 0;
-    let mut i = 0;
-    while i < n {
-        let b = shapes::block_at(shape, i);
-        sum += b.upper as usize;
-        i += 1;
-    }
-    sum
-}
-
 // Past all blocks no character may come and no run end.
 fn past_slot() -> Words
     ensures { λ r. ⌜ meant r ≡ past ⌝ }
@@ -100,7 +84,7 @@ pub fn lay_out(shape: &[u64], slots: &mut [u64]) -> usize
     ensures { λ r. ⌜ r ≡ total (shapeOf (now (shape .entry))) ⌝ }
     ensures { λ _. ⌜ LaidOut (shapeOf (now (shape .entry))) (now (slots .exit)) ⌝ }
 {
-    let n = total_upper(shape);
+    let n = shapes::total_upper(shape) as usize;
     let end = past_slot();
     put_block(slots, n, end);
     let mut p = n;

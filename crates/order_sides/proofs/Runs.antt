@@ -13,18 +13,14 @@ use Rattle.shapes.proofs.All.{all-append, all-left, all-right, all-head, all-ta
 use Rattle.hulls.specs.Hull.{Occurs, Tight}
 use Rattle.hulls.proofs.Tight.{all-from}
 use Rattle.rests.specs.Walk.{Walk, step, Bounded}
-use Rattle.rests.proofs.Walks.{walk-from, walk-to, walk-append, path-of, text-of}
-use Rattle.rests.proofs.Laid.{Has, steps, run-walk, walk-run, inside, enter}
-use Rattle.rests.proofs.Cut.{last-of}
+use Rattle.rests.proofs.Walks.{walk-from, walk-append, path-of, text-of}
+use Rattle.rests.proofs.Laid.{Has, run-walk, walk-run}
+use Rattle.rests.proofs.Cut.{last-of, occurs-split, last-text, within-text, to-within, from-within}
 use Rattle.order_sides.specs.Guide.{Guide, Keeps, along, Even, Free}
 use Rattle.order_sides.specs.Collect.{Passes, Ends, Collected}
 use Rattle.order_sides.proofs.Keeping.{keeps-append, CutAt, whole, early, cut, free-later, early-free, clear-of, advance-to, text-clear}
 
 -- ---- lists
-
-occurs-split : {c : ℕ} {r : List ℕ} → Occurs c r → (q : List ℕ) × (s : List ℕ) × (r ≡ q ++ (c ∷ s))
-occurs-split {c} {r = d ∷ r} (List·Memᴰ·head e) = ([], r, ap (λ (x : ℕ). x ∷ r) (sym e))
-occurs-split {c} {r = d ∷ r} (List·Memᴰ·tail m) = let l = occurs-split m in (d ∷ l .0, l .1, ap (λ (l : List ℕ). d ∷ l) (l .2))
 
 occurs-right : {c : ℕ} (q : List ℕ) {s : List ℕ} → Occurs c s → Occurs c (q ++ s)
 occurs-right [] m = m
@@ -37,12 +33,6 @@ occurs-times c (suc n) h = List·Memᴰ·head refl
 all-times : {P : ℕ → Type 0} (c n : ℕ) → P c → All P (replicate n c)
 all-times c zero h = All.none
 all-times c (suc n) h = more h (all-times c n h)
-
-last-text : (f q b : List ℕ) (d : ℕ) → f ++ ((q ++ (d ∷ [])) ++ b) ≡ (f ++ q) ++ (d ∷ b)
-last-text f q b d = ap (λ (l : List ℕ). f ++ l) (append-assoc q (d ∷ []) b) ∙ sym (append-assoc f q (d ∷ b))
-
-within-text : (f q s b : List ℕ) (d : ℕ) → f ++ ((q ++ (d ∷ s)) ++ b) ≡ (f ++ q) ++ (d ∷ (s ++ b))
-within-text f q s b d = ap (λ (l : List ℕ). f ++ l) (append-assoc q (d ∷ s) b) ∙ sym (append-assoc f q (d ∷ (s ++ b)))
 
 keeps-text : {G : Guide} {q : ℕ} {t u : List ℕ} → t ≡ u → Keeps G q t → Keeps G q u
 keeps-text {G} {q} e k = subst (Keeps G q) e k
@@ -73,20 +63,6 @@ module _ {X : ℕ → Block} {U p : ℕ} {b : Block} (at : Spot X U p b) where
 
   holds-slot : (k c : ℕ) → k < b .upper → Holds (b .base) c → Holds (X (p + k) .base) c
   holds-slot k c l h = subst (λ (x : Block). Holds (x .base) c) (sym (at .has .slot k l)) h
-
-  -- read from the start to within the block
-  to-within : {f : List ℕ} (q : List ℕ) → Walk X p 0 f → All (Holds (b .base)) q → length q ≤ b .upper → Walk X (p + length q) 0 (f ++ q)
-  to-within q w h l = walk-append w
-      (walk-from (let e : p ≡ p + 0 = omega arith in e) (walk-to (let e : p + (0 + length q) ≡ p + length q = omega arith in e) (steps (at .has) 0 q h (omega arith))))
-
-  -- what is read to within the block
-  from-within : {t : List ℕ} (k : ℕ) → k < b .upper → Walk X (p + k) 0 t
-      → (f : List ℕ) × (q : List ℕ) × (t ≡ f ++ q) × Walk X p 0 f × All (Holds (b .base)) q × (length q ≡ k)
-  from-within k l w =
-      let e = enter (at .edge) (omega arith) (omega arith) w in
-      let i = inside (at .has) (e .after) 0 k (omega arith) refl (omega arith) l in
-      let n = i .1 in
-      (e .front, e .rest, e .text, e .before, i .0, omega arith)
 
   -- any rest
   some-rest : (t : List ℕ) × Walk X U (p + b .upper) t
@@ -126,7 +102,7 @@ module _ {X : ℕ → Block} {U p : ℕ} {b : Block} (at : Spot X U p b) where
         → k + 1 + length s ≤ b .upper → b .lower ≤ k + 1 + length s → (r : List ℕ) × RunIn X G U p b (r ++ (d ∷ s)) × (length r ≡ k)
     free-within k q d s l v h g all up low =
         let a = text-of v in
-        let i = from-within k l (a .1) in
+        let i = from-within (at .has) (at .edge) k l (a .1) in
         let e = some-rest in
         let size = i .5 in
         let long : length (i .1 ++ (d ∷ s)) ≡ length (i .1) + suc (length s) = length-append (i .1) (d ∷ s) in (
@@ -181,7 +157,7 @@ module _ {X : ℕ → Block} {U p : ℕ} {b : Block} (at : Spot X U p b) where
         high = let h = r .run .bounded in let e = long in omega arith
 
         walked : Walk X (p + length q) 0 (r .front ++ q)
-        walked = to-within q (r .before) (all-left q (d ∷ []) (r .run .held)) (omega (arith, long, high))
+        walked = to-within (at .has) q (r .before) (all-left q (d ∷ []) (r .run .held)) (omega (arith, long, high))
 
         held : Holds (b .base) d
         held = all-head (all-right q (d ∷ []) (r .run .held))
@@ -210,7 +186,7 @@ module _ {X : ℕ → Block} {U p : ℕ} {b : Block} (at : Spot X U p b) where
     run-of {n} (Ends.stays k q e l low v m g) =
         let a = text-of v in
         let z = text-clear (at .bounded) (at .full) g (at .fits) in
-        let i = from-within k l (a .1) in
+        let i = from-within (at .has) (at .edge) k l (a .1) in
         let size = i .5 in
         let long : length (i .1 ++ (m .shared ∷ [])) ≡ length (i .1) + 1 = length-append (i .1) (m .shared ∷ []) in (
           i .1 ++ (m .shared ∷ []),
@@ -240,7 +216,7 @@ module _ {X : ℕ → Block} {U p : ℕ} {b : Block} (at : Spot X U p b) where
         low = let h = r .run .enough in let e = long in omega arith
 
         walked : Walk X (p + length q) 0 (r .front ++ q)
-        walked = to-within q (r .before) (all-left q (c ∷ s) (r .run .held)) (omega (arith, high, low))
+        walked = to-within (at .has) q (r .before) (all-left q (c ∷ s) (r .run .held)) (omega (arith, high, low))
 
         rest : All (Holds (b .base)) (c ∷ s)
         rest = all-right q (c ∷ s) (r .run .held)
@@ -310,7 +286,7 @@ module _ {X : ℕ → Block} {U p : ℕ} {b : Block} (at : Spot X U p b) where
         let fits = at .fits in
         let a = text-of v in
         let z = text-clear (at .bounded) (at .full) clear (omega arith) in
-        let i = from-within k l (a .1) in
+        let i = from-within (at .has) (at .edge) k l (a .1) in
         let w = walk-run (at .has) (z .1) (k + 1) (omega arith) (omega arith) fits (at .ordered) in
         let size = i .5 in
         let low = w .enough in

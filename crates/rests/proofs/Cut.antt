@@ -21,7 +21,7 @@ pub last-of : (c : ℕ) (r : List ℕ) → (q : List ℕ) × (d : ℕ) × (c ∷
 last-of c [] = ([], c, refl)
 last-of c (d ∷ r) = let l = last-of d r in (c ∷ l .0, l .1, ap (λ (l : List ℕ). c ∷ l) (l .2))
 
-occurs-split : {c : ℕ} {r : List ℕ} → Occurs c r → (q : List ℕ) × (s : List ℕ) × (r ≡ q ++ (c ∷ s))
+pub occurs-split : {c : ℕ} {r : List ℕ} → Occurs c r → (q : List ℕ) × (s : List ℕ) × (r ≡ q ++ (c ∷ s))
 occurs-split {c} {r = d ∷ r} (List·Memᴰ·head e) = ([], r, ap (λ (x : ℕ). x ∷ r) (sym e))
 occurs-split {c} {r = d ∷ r} (List·Memᴰ·tail m) = let l = occurs-split m in (d ∷ l .0, l .1, ap (λ (l : List ℕ). d ∷ l) (l .2))
 
@@ -29,11 +29,28 @@ occurs-within : (c : ℕ) (q s : List ℕ) → Occurs c (q ++ (c ∷ s))
 occurs-within c [] s = List·Memᴰ·head refl
 occurs-within c (d ∷ q) s = List·Memᴰ·tail (occurs-within c q s)
 
-last-text : (f q b : List ℕ) (d : ℕ) → f ++ ((q ++ (d ∷ [])) ++ b) ≡ (f ++ q) ++ (d ∷ b)
+pub last-text : (f q b : List ℕ) (d : ℕ) → f ++ ((q ++ (d ∷ [])) ++ b) ≡ (f ++ q) ++ (d ∷ b)
 last-text f q b d = ap (λ (l : List ℕ). f ++ l) (append-assoc q (d ∷ []) b) ∙ sym (append-assoc f q (d ∷ b))
 
-within-text : (f q s b : List ℕ) (d : ℕ) → f ++ ((q ++ (d ∷ s)) ++ b) ≡ (f ++ q) ++ (d ∷ (s ++ b))
+pub within-text : (f q s b : List ℕ) (d : ℕ) → f ++ ((q ++ (d ∷ s)) ++ b) ≡ (f ++ q) ++ (d ∷ (s ++ b))
 within-text f q s b d = ap (λ (l : List ℕ). f ++ l) (append-assoc q (d ∷ s) b) ∙ sym (append-assoc f q (d ∷ (s ++ b)))
+
+-- ---- a block among the positions of X
+
+module _ {X : ℕ → Block} {p : ℕ} {b : Block} (has : Has X p b) where
+  -- read from the start to within the block
+  pub to-within : {f : List ℕ} (q : List ℕ) → Walk X p 0 f → All (Holds (b .base)) q → length q ≤ b .upper → Walk X (p + length q) 0 (f ++ q)
+  to-within q w h l = walk-append w
+      (walk-from (let e : p ≡ p + 0 = omega arith in e) (walk-to (let e : p + (0 + length q) ≡ p + length q = omega arith in e) (steps has 0 q h (omega arith))))
+
+  -- what is read to within the block
+  pub from-within : {t : List ℕ} → ((y : ℕ) → y < p → y + X y .upper ≤ p) → (k : ℕ) → k < b .upper → Walk X (p + k) 0 t
+      → (f : List ℕ) × (q : List ℕ) × (t ≡ f ++ q) × Walk X p 0 f × All (Holds (b .base)) q × (length q ≡ k)
+  from-within edge k l w =
+      let e = enter edge (omega arith) (omega arith) w in
+      let i = inside has (e .after) 0 k (omega arith) refl (omega arith) l in
+      let n = i .1 in
+      (e .front, e .rest, e .text, e .before, i .0, omega arith)
 
 -- ---- a block among the positions of X, and what Y allows
 
@@ -54,20 +71,6 @@ pub record RunIn (X Y : ℕ → Block) (U W p : ℕ) (b : Block) (r : List ℕ) 
   pub other : Walk Y W 0 (front ++ (r ++ back))
 
 module _ {X Y : ℕ → Block} {U W p : ℕ} {b : Block} (at : Place X Y U W p b) where
-  -- read from the start to within the block
-  to-within : {f : List ℕ} (q : List ℕ) → Walk X p 0 f → All (Holds (b .base)) q → length q ≤ b .upper → Walk X (p + length q) 0 (f ++ q)
-  to-within q w h l = walk-append w
-      (walk-from (let e : p ≡ p + 0 = omega arith in e) (walk-to (let e : p + (0 + length q) ≡ p + length q = omega arith in e) (steps (at .has) 0 q h (omega arith))))
-
-  -- what is read to within the block
-  from-within : {t : List ℕ} (k : ℕ) → k < b .upper → Walk X (p + k) 0 t
-      → (f : List ℕ) × (q : List ℕ) × (t ≡ f ++ q) × Walk X p 0 f × All (Holds (b .base)) q × (length q ≡ k)
-  from-within k l w =
-      let e = enter (at .edge) (omega arith) (omega arith) w in
-      let i = inside (at .has) (e .after) 0 k (omega arith) refl (omega arith) l in
-      let n = i .1 in
-      (e .front, e .rest, e .text, e .before, i .0, omega arith)
-
   -- ---- lengths
 
   ends-empty : RunIn X Y U W p b [] → Ends X Y U W p b 0
@@ -82,7 +85,7 @@ module _ {X Y : ℕ → Block} {U W p : ℕ} {b : Block} (at : Place X Y U W p b
       let long : length (q ++ (d ∷ [])) ≡ length q + 1 = length-append q (d ∷ []) in
       let high = r .run .bounded in
       filled (length q) (s .0) (below-character (at .other) (s .0) d (ends-within (at .other) (omega arith) (s .1)) (s .2)) long (omega arith) (r .run .enough)
-      (path-of (to-within q (r .before) (all-left q (d ∷ []) (r .run .held)) (omega arith)) (s .1))
+      (path-of (to-within (at .has) q (r .before) (all-left q (d ∷ []) (r .run .held)) (omega arith)) (s .1))
       (record { shared = d; first = all-head (all-right q (d ∷ []) (r .run .held)); second = s .2 })
       (path-of (r .after) (s .3))
 
@@ -100,7 +103,7 @@ module _ {X Y : ℕ → Block} {U W p : ℕ} {b : Block} (at : Place X Y U W p b
   run-of {n} (filled k j l e room low pre m post) =
       let a = text-of pre in
       let z = text-of post in
-      let i = from-within k room (a .1) in
+      let i = from-within (at .has) (at .edge) k room (a .1) in
       let size = i .5 in
       let long : length (i .1 ++ (m .shared ∷ [])) ≡ length (i .1) + 1 = length-append (i .1) (m .shared ∷ []) in (
         i .1 ++ (m .shared ∷ []),
@@ -129,7 +132,7 @@ module _ {X Y : ℕ → Block} {U W p : ℕ} {b : Block} (at : Place X Y U W p b
         other = cut .0;
         room = omega arith;
         bound = below-character (at .other) (cut .0) c (ends-within (at .other) (omega arith) (cut .1)) (cut .2);
-        reached = path-of (to-within q (r .before) (all-left q (c ∷ s) (r .run .held)) (omega arith)) (cut .1);
+        reached = path-of (to-within (at .has) q (r .before) (all-left q (c ∷ s) (r .run .held)) (omega arith)) (cut .1);
         own = all-head held;
         others = cut .2;
         after = path-of
@@ -143,7 +146,7 @@ module _ {X Y : ℕ → Block} {U W p : ℕ} {b : Block} (at : Place X Y U W p b
       let z = text-of (h .after) in
       let room = h .room in
       let fits = at .fits in
-      let i = from-within (h .before) room (a .1) in
+      let i = from-within (at .has) (at .edge) (h .before) room (a .1) in
       let w = walk-run (at .has) (z .1) (h .before + 1) (omega arith) (omega arith) fits (at .ordered) in
       let size = i .5 in
       let low = w .enough in

@@ -65,6 +65,12 @@ pub total-from : (xs : List ℕ) (i : ℕ) → i < length xs / 4 → total (drop
 unfolding total
 total-from xs i h = ap total (shape-from xs i h)
 
+-- sound blocks have a small total
+pub sound-total : {s : List Block} → All Sound s → total s ≤ length s * 250
+unfolding total
+sound-total none = omega arith
+sound-total (more h g) = let u = h .small in let t = sound-total g in omega arith
+
 pub total-none : (xs : List ℕ) (i : ℕ) → length xs / 4 ≤ i → total (drop i (shapeOf xs)) ≡ 0
 unfolding total
 total-none xs i h = let past : length (shapeOf xs) ≤ i = let e = shape-length xs in omega arith in ap total (drop-of-length-le (shapeOf xs) past)

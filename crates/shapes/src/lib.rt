@@ -5,7 +5,6 @@ ghost use mathlib.Core.Path.{_≡_};
 ghost use Prim.Native.Nat.{_/_, _≤_, _<_};
 ghost use lib.ListN.{length};
 ghost use Rattle.bases.specs.Tells.{Tells};
-ghost use Rattle.shapes.specs.All.{All};
 ghost use Rattle.shapes.specs.Shape.{Sound, total};
 ghost use Rattle.shapes.specs.Lent.{meant, blockAt, shapeOf, BlocksChecked, ShapeChecked};
 ghost use Rattle.shapes.specs.Code.{SoundUpTo};
@@ -64,10 +63,9 @@ fn sound_blocks(shape: &[u64]) -> usize
     n
 }
 
-// The uppers added. Sound blocks keep the sum small.
-fn total_upper(shape: &[u64]) -> u64
-    requires { ⌜ All Sound (shapeOf (now shape)) ⌝ }
-    requires { ⌜ length (now shape) / 4 ≤ 32 ⌝ }
+// The uppers added, where the sum is known to be small.
+pub fn total_upper(shape: &[u64]) -> u64
+    requires { ⌜ total (shapeOf (now shape)) ≤ 8000 ⌝ }
     ensures { λ r. ⌜ r ≡ total (shapeOf (now (shape .entry))) ⌝ }
 {
     let n = shape.len() / 4;

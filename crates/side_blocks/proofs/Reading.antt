@@ -85,12 +85,12 @@ module _ {xs next parts : List ℕ} {n m : ℕ} {w : List ℕ} {free : ℕ} (S :
     by-ends low up (EndsBy.stops e a) =
         let fits = at .fits in
         let l = a .within in
-        Ends.empty (a .state) (omega arith) e (S .told .reached p (a .state) (omega arith) (omega arith) (a .has .even)) (S .told .clear (p + b .upper) (a .state) fits (omega arith) (a .has .clear))
+        Ends.empty (a .state) (omega arith) e (S .told .reached p (a .state) (omega arith) (omega arith) (a .has .even)) (S .told .ends (p + b .upper) (a .state) fits (omega arith) (a .has .clear))
     by-ends low up (EndsBy.stays k e a) =
         let fits = at .fits in
         let l = a .within in
         Ends.stays k (a .state) e (omega arith) low (S .told .reached (p + k) (a .state) (omega arith) (omega arith) (a .has .even)) (a .has .same)
-        (S .told .clear (p + b .upper) (a .state + 1) fits (omega arith) (a .has .clear))
+        (S .told .ends (p + b .upper) (a .state + 1) fits (omega arith) (a .has .clear))
 
     -- ---- characters
 
@@ -125,7 +125,7 @@ module _ {xs next parts : List ℕ} {n m : ℕ} {w : List ℕ} {free : ℕ} (S :
     taken-passes k q l r (Takes.parts e h g) = let fits = at .fits in Passes.parts k q l h (S .told .reached (p + k) q (omega arith) (omega arith) e) g
     taken-passes k q l r (Takes.stays e less v h g) =
         let fits = at .fits in
-        Passes.stays k q l h (S .told .reached (p + k) q (omega arith) (omega arith) e) g (S .told .clear (p + k + 1) (q + 1) (omega arith) (omega arith) v)
+        Passes.stays k q l h (S .told .reached (p + k) q (omega arith) (omega arith) e) g (S .told .ends (p + k + 1) (q + 1) (omega arith) (omega arith) v)
 
     pub by-passes : {c : ℕ} → CharsBy w next parts m p b free c → Passes (blockAt xs) (guideOf next parts) n p b c
     by-passes {c} (freely h g) =

@@ -1,19 +1,16 @@
 -- The cells that say whether some rest keeps to the right side. Assumes nothing.
 use mathlib.Core.Path.{_≡_, sym, ap, _∙_, subst}
 use mathlib.Core.List.{List}
-use mathlib.Core.Logic.{_⊎_, ⊎-elim}
 use Prim.Native.Nat.{ℕ, _+_, _-_, _*_, _≤_, _<_}
 use native.Mathlib.Omega.{arith}
-use lib.ListN.{length, getD, set}
+use lib.ListN.{length, set}
 use Rattle.bases.specs.Base.{Holds, Meets}
-use Rattle.bases.proofs.Plain.{eq-or-ne}
 use Rattle.shapes.specs.Shape.{Block}
 use Rattle.shapes.specs.Lent.{blockAt}
 use Rattle.rests.specs.Walk.{Bounded}
 use Rattle.rests.proofs.Walks.{below, below-character}
 use Rattle.tables.specs.Table.{look, Says, Same-rest}
-use Rattle.tables.proofs.Cells.{one-index, set-here, set-there}
-use Rattle.tables.proofs.Finish.{says-map}
+use Rattle.tables.proofs.Finish.{says-map, from-set}
 use Rattle.order_sides.specs.Guide.{Guide, Clear, Ended}
 use Rattle.order_sides.proofs.Keeping.{not-last}
 use Rattle.side_tables.specs.Board.{Board, Onward, at-end, by-run, by-same, by-apart, Near, ClearFrom}
@@ -86,17 +83,7 @@ module _ {X : ℕ → Block} {G : Guide} {n m : ℕ} (x : Bounded X n) (y : Ende
   -- one more cell
   pub clear-cell : {a s t : Block} → a ≡ X i → s .base ≡ G .same q → t .base ≡ G .apart q → t .lower ≡ G .ends q → m ≤ 250 → (v : ℕ) → i * 251 + q < length w
       → Says v (Onward w n i q a s t) → ClearFrom X G n m (i * 251 + q) (set w (i * 251 + q) v)
-  clear-cell {a} {s} {t} ea es et en k v l d = record {
-    says = λ j r p u o. ⊎-elim
-        (λ e.
-        let both-same = one-index j r i q (omega arith) (omega arith) e in
-        let here : look (set w (i * 251 + q) v) j r ≡ v = ap (λ (z : ℕ). getD (set w (i * 251 + q) v) z 0) e ∙ set-here w i q v l in
-        let now : Says v (Clear X G n i q) = says-map (λ z. onward-clear (to z)) (λ z. from (clear-onward z)) d in
-        subst (λ (z : ℕ). Says z (Clear X G n j r)) (sym here)
-        (subst (λ (z : ℕ). Says v (Clear X G n z r)) (sym (both-same .0)) (subst (λ (z : ℕ). Says v (Clear X G n i z)) (sym (both-same .1)) now)))
-        (λ e. subst (λ (z : ℕ). Says z (Clear X G n j r)) (sym (set-there w (i * 251 + q) j r v e)) (f .says j r p u (omega arith)))
-        (eq-or-ne (j * 251 + r) (i * 251 + q));
-  }
+  clear-cell {a} {s} {t} ea es et en k v l d = from-set i q v g k l (says-map (λ z. onward-clear (to z)) (λ z. from (clear-onward z)) d) f
     where
       to : Onward w n i q a s t → Onward w n i q (X i) (record { base = G .same q; lower = 0; upper = 0 }) (record { base = G .apart q; lower = G .ends q; upper = 0 })
       to (at-end e d) = at-end e (subst (λ (z : ℕ). 0 < z) en d)
@@ -109,17 +96,6 @@ module _ {X : ℕ → Block} {G : Guide} {n m : ℕ} (x : Bounded X n) (y : Ende
       from (by-run b c) = by-run (subst (λ (z : Block). z .lower ≡ 0) (sym ea) b) (subst (λ (z : Block). 0 < look w (i + z .upper) q) (sym ea) c)
       from (by-same b c) = by-same (subst (λ (z : Block). Meets (z .base) (s .base)) (sym ea) (subst (λ (z : ℕ). Meets (X i .base) z) (sym es) b)) c
       from (by-apart b) = by-apart (subst (λ (z : Block). Meets (z .base) (t .base)) (sym ea) (subst (λ (z : ℕ). Meets (X i .base) z) (sym et) b))
-
--- before the last row there is nothing to say, and between the end of a row and the next there is nothing
-
-pub clear-none : {X : ℕ → Block} {G : Guide} {n m : ℕ} {w : List ℕ} (k : ℕ) → n * 251 + 251 ≤ k → m ≤ 250 → ClearFrom X G n m k w
-clear-none k h g = record { says = λ i q p u o. absurd (omega arith) }
-
-pub clear-less : {X : ℕ → Block} {G : Guide} {n m : ℕ} {w : List ℕ} (i k l : ℕ) → m ≤ 250 → k ≡ i * 251 + 251 → l ≡ i * 251 + (m + 1) → ClearFrom X G n m k w → ClearFrom X G n m l w
-clear-less i k l g e d f = record { says = λ a b p q o. f .says a b p q (omega arith) }
-
-pub clear-from : {X : ℕ → Block} {G : Guide} {n m k l : ℕ} {w : List ℕ} → k ≡ l → ClearFrom X G n m k w → ClearFrom X G n m l w
-clear-from {X} {G} {n} {m} {w = w} e f = subst (λ (z : ℕ). ClearFrom X G n m z w) e f
 
 pub no-move : {w : List ℕ} {n i q : ℕ} {a s t : Block} → (i ≡ n → 0 < t .lower → ⊥) → ((a .lower ≡ 0) × (0 < look w (i + a .upper) q) → ⊥)
     → (Meets (a .base) (s .base) × (0 < look w (i + 1) (q + 1)) → ⊥) → (Meets (a .base) (t .base) → ⊥) → Onward w n i q a s t → ⊥

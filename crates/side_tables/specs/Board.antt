@@ -1,13 +1,13 @@
 -- A table over the positions of a shape and the states of a guide: a cell is 0 exactly where no rest of the shape keeps to the right side.
 use mathlib.Core.Path.{_≡_}
 use mathlib.Core.List.{List}
-use Prim.Native.Nat.{ℕ, _+_, _*_, _≤_, _<_}
+use Prim.Native.Nat.{ℕ, _+_, _≤_, _<_}
 use lib.ListN.{length}
 use Rattle.bases.specs.Base.{Meets}
 use Rattle.shapes.specs.Shape.{Block}
 use Rattle.shapes.specs.Lent.{blockAt}
 use Rattle.rests.specs.Walk.{Bounded}
-use Rattle.tables.specs.Table.{look, Says}
+use Rattle.tables.specs.Table.{look, SaysFrom}
 use Rattle.order_sides.specs.Guide.{Guide, Clear, Ended}
 
 -- A guide as numbers, four to a state twice over: `next` has the character that the fixed text has next,
@@ -42,5 +42,5 @@ pub record Near (i q : ℕ) (a s : Block) : Type 0 where
   pub by-same : Meets (a .base) (s .base) → (i < 250) × (q < 250)
 
 -- Every cell from index k on says exactly whether some rest keeps to the right side.
-pub record ClearFrom (X : ℕ → Block) (G : Guide) (n m k : ℕ) (w : List ℕ) : Type 0 where
-  pub says : (i q : ℕ) → i ≤ n → q ≤ m → k ≤ i * 251 + q → Says (look w i q) (Clear X G n i q)
+abbrev pub ClearFrom : (ℕ → Block) → Guide → ℕ → ℕ → ℕ → List ℕ → Type 0
+ClearFrom X G n m k w = SaysFrom (λ i q. Clear X G n i q) n m k w

@@ -43,9 +43,13 @@ pub record Near (i j : ℕ) (a b : Block) : Type 0 where
   pub by-second : b .lower ≡ 0 → j + b .upper ≤ 250
   pub by-both : Meets (a .base) (b .base) → (i < 250) × (j < 250)
 
--- Every cell from index k on says exactly whether one text leads both to their ends.
-pub record FinishFrom (X Y : ℕ → Block) (n m k : ℕ) (w : List ℕ) : Type 0 where
-  pub says : (i j : ℕ) → i ≤ n → j ≤ m → k ≤ i * 251 + j → Says (look w i j) (Path X Y n m i j)
+-- Every cell from index k on says exactly whether E holds there.
+pub record SaysFrom (E : ℕ → ℕ → Type 0) (n m k : ℕ) (w : List ℕ) : Type 0 where
+  pub says : (i j : ℕ) → i ≤ n → j ≤ m → k ≤ i * 251 + j → Says (look w i j) (E i j)
+
+-- Of two shapes: whether one text leads both to their ends.
+abbrev pub FinishFrom : (ℕ → Block) → (ℕ → Block) → ℕ → ℕ → ℕ → List ℕ → Type 0
+FinishFrom X Y n m k w = SaysFrom (λ i j. Path X Y n m i j) n m k w
 
 -- What is past the table stays.
 pub record Same-rest (w w′ : List ℕ) : Type 0 where

@@ -19,7 +19,7 @@ abbrev μ-loop : tie.MeasureT-loop
 μ-loop shape slots₀ n p₀ i₀ slots p i = i
 
 total-upper-requires : tie.Need-total-upper-requires Inv-loop μ-loop
-total-upper-requires c κs = c .before .before .pre .0
+total-upper-requires c κs = let h = c .before .before .pre .0 in omega arith
 
 past-slot-requires : tie.Need-past-slot-requires Inv-loop μ-loop
 past-slot-requires c κs = search needs

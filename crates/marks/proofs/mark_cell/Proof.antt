@@ -3,6 +3,7 @@ use native.Mathlib.Omega.{arith}
 use Rattle.shapes.specs.Lent.{meant}
 use Rattle.tables.specs.Table.{Near, Same-rest}
 use Rattle.tables.proofs.Cells.{near, on-table, rest-refl, rest-trans}
+use Rattle.rests.proofs.Walks.{onward}
 use Rattle.marks.proofs.Marks.{mark-skip, mark-cell, rest-push}
 use borrow.Author.Needs.{needs}
 use Rattle.marks.proofs.mark_cell.Statement.{statement}
@@ -73,7 +74,7 @@ returns-2 c =
     let s = b .before .before .before .before .before .before .before in
     let n = moves b in
     let g = s .pre .0 in (
-      mark-cell (g .first) (g .second) (g .rows) (g .columns) (s .args .i) (s .args .j) (s .pre .1 .0 .0) (s .pre .1 .0 .1)
+      mark-cell (g .rows) (g .columns) (s .args .i) (s .args .j) (s .pre .1 .0 .0) (s .pre .1 .0 .1) (λ a b v. onward (g .first) (g .second) (s .pre .1 .0 .0) (s .pre .1 .0 .1) v)
           (b .before .block-at .ensures) (b .block-at2 .ensures) (g .long) (let t = b .before .before .if1 .left in omega arith) (s .pre .1 .1)
           (r .push-first .ensures) (q .push-second .ensures) (p .push-both .ensures),
       rest-trans (second-rest q) (rest-push (λ l. let h = n .by-both l in on-table _ _ (omega arith) (omega arith)) (p .push-both .ensures)),

@@ -5,6 +5,7 @@ use Rattle.shapes.specs.Lent.{blockAt}
 use Rattle.tables.specs.Table.{Same-rest}
 use Rattle.tables.proofs.Cells.{rest-refl, rest-trans, rest-set, grid-long}
 use Rattle.marks.specs.Marks.{MarkedTo}
+use Rattle.rests.proofs.Walks.{onward, path-append}
 use Rattle.marks.proofs.Marks.{mark-less, mark-start, mark-told}
 use borrow.Author.Needs.{needs}
 use Rattle.marks.proofs.mark_table.Statement.{statement}
@@ -23,7 +24,7 @@ loop-holds : tie.Need-loop-holds Inv-loop μ-loop
 loop-holds c =
     let s = c .before .before .before in
     let g = s .pre .0 in
-    (search needs, rest-refl _, mark-start (g .columns) (g .long) (s .pre .1 .1) (s .pre .1 .0))
+    (search needs, rest-refl _, mark-start (s .args .work .now) (g .columns) (g .long) (s .pre .1 .1) (s .pre .1 .0))
 
 -- what is past the table is as on entry
 kept : (c : tie.At-loop Inv-loop μ-loop) → Same-rest (c .before .before .before .before .args .work .now) (c .loop .work)
@@ -55,7 +56,7 @@ returns : tie.Need-returns Inv-loop μ-loop
 returns c =
     let l = c .before .loop in
     let g = c .before .before .before .before .before .pre .0 in
-    (mark-told (g .first) (g .second) (g .columns) (omega arith) (l .inv .2), kept (c .before))
+    (mark-told (λ i j a b h u s. onward (g .first) (g .second) h u s) (λ i j a b p q. path-append p q) (g .columns) (omega arith) (l .inv .2), kept (c .before))
 
 pub mark-table-spec : {M : Type 1} → statement M
 mark-table-spec =

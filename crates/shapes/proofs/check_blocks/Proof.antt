@@ -6,7 +6,7 @@ use Rattle.shapes.specs.All.{All}
 use Rattle.shapes.specs.Shape.{Sound}
 use Rattle.shapes.specs.Lent.{shapeOf}
 use Rattle.shapes.specs.Lent.BlocksRefused.{unsound, too-long}
-use Rattle.shapes.proofs.Lent.{all-sound, shape-length}
+use Rattle.shapes.proofs.Lent.{all-sound, shape-length, sound-total}
 use Rattle.shapes.proofs.check_blocks.Statement.{statement}
 use Rattle.shapes.proofs.check_blocks.Tie as tie
 
@@ -35,7 +35,7 @@ sound : (c : tie.Else1) → All Sound (shapeOf (c .before .before .before .args 
 sound c = all-sound _ (c .before .sound-blocks .result) (c .if1 .left) (c .before .sound-blocks .ensures .sound)
 
 total-upper-requires : tie.Need-total-upper-requires
-total-upper-requires c κs = (sound c, c .before .before .before .pre)
+total-upper-requires c κs = let t = sound-total (sound c) in let l = shape-length (c .before .before .before .args .shape .now) in let f = c .before .before .before .pre in omega arith
 
 returns-2 : tie.Need-returns-2
 returns-2 c = too-long (sound (c .before .before)) (let e = c .before .total-upper .ensures in let h = c .if2 .taken in omega arith) refl

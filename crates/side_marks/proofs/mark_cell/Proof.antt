@@ -5,10 +5,10 @@ use Rattle.shapes.specs.Shape.{Block}
 use Rattle.shapes.specs.Lent.{meant}
 use Rattle.tables.specs.Table.{Same-rest}
 use Rattle.tables.proofs.Cells.{on-table, rest-refl, rest-trans}
-use Rattle.marks.proofs.Marks.{rest-push}
+use Rattle.marks.proofs.Marks.{mark-skip, rest-push}
 use Rattle.side_tables.specs.Board.{Near}
 use Rattle.side_tables.proofs.Cells.{near}
-use Rattle.side_marks.proofs.Marks.{even-skip, even-cell}
+use Rattle.side_marks.proofs.Marks.{even-cell}
 use borrow.Author.Needs.{needs}
 use Rattle.side_marks.proofs.mark_cell.Statement.{statement}
 use Rattle.side_marks.proofs.mark_cell.Tie as tie
@@ -25,7 +25,7 @@ slice-read-if1 c = let s = c .before .before .before .before .before in let g = 
 returns : tie.Need-returns
 returns c =
     let s = c .before .before .before .before .before .before in
-    (even-skip (s .args .i) (s .args .q) (s .pre .0 .columns) (s .pre .1 .0 .1) (c .if1 .taken) (s .pre .1 .1), rest-refl _)
+    (mark-skip (s .args .i) (s .args .q) (s .pre .0 .columns) (s .pre .1 .0 .1) (c .if1 .taken) (s .pre .1 .1), rest-refl _)
 
 block-at-requires : tie.Need-block-at-requires
 block-at-requires c κs = let s = c .before .before .before .before .before .before in let g = s .pre .0 in let r = g .rows in let h = s .pre .1 .0 in let l = g .shape-long in omega arith

@@ -7,7 +7,7 @@ use Rattle.tables.proofs.Cells.{rest-refl, rest-trans}
 use Rattle.side_tables.specs.Board.{guideOf}
 use Rattle.side_tables.proofs.Cells.{board-long}
 use Rattle.side_marks.specs.Marks.{EvenTo}
-use Rattle.side_marks.proofs.Marks.{even-at, even-row-end}
+use Rattle.marks.proofs.Marks.{mark-less, mark-row-end}
 use borrow.Author.Needs.{needs}
 use Rattle.side_marks.proofs.mark_row.Statement.{statement}
 use Rattle.side_marks.proofs.mark_row.Tie as tie
@@ -21,7 +21,7 @@ abbrev μ-loop : tie.MeasureT-loop
 loop-holds : tie.Need-loop-holds Inv-loop μ-loop
 loop-holds c =
     let s = c .before .before .before .before in
-    (search needs, rest-refl _, even-at (s .args .i * 251) _ (omega arith) (s .pre .1 .1))
+    (search needs, rest-refl _, mark-less (s .args .i * 251) _ (omega arith) (s .pre .1 .1))
 
 mark-cell-requires : tie.Need-mark-cell-requires Inv-loop μ-loop
 mark-cell-requires c κs =
@@ -40,7 +40,7 @@ loop-again c =
     let l = c .before .before .before .before .before .loop in
     let i = c .before .before .before .before .before .before .before .before .before .before .args .i in
     let cell = c .before .before .mark-cell .ensures in
-    (omega arith, rest-trans (l .inv .1) (cell .1), even-at (i * 251 + l .q + 1) (i * 251 + (l .q + 1)) (omega arith) (cell .0))
+    (omega arith, rest-trans (l .inv .1) (cell .1), mark-less (i * 251 + l .q + 1) (i * 251 + (l .q + 1)) (omega arith) (cell .0))
 
 same-length : tie.Need-same-length Inv-loop μ-loop
 same-length c = c .before .loop .inv .1 .long
@@ -49,7 +49,7 @@ returns : tie.Need-returns Inv-loop μ-loop
 returns c =
     let l = c .before .loop in
     let s = c .before .before .before .before .before .before in
-    (even-row-end (s .args .i) _ (s .pre .0 .columns) (omega arith) (l .inv .2), l .inv .1)
+    (mark-row-end (s .args .i) _ (s .pre .0 .columns) (omega arith) (l .inv .2), l .inv .1)
 
 pub mark-row-spec : {M : Type 1} → statement M
 mark-row-spec =

@@ -7,7 +7,8 @@ use Rattle.tables.proofs.Cells.{rest-refl, rest-trans, rest-set}
 use Rattle.side_tables.specs.Board.{guideOf}
 use Rattle.side_tables.proofs.Cells.{board-long}
 use Rattle.side_marks.specs.Marks.{EvenTo}
-use Rattle.side_marks.proofs.Marks.{even-at, even-start, even-told}
+use Rattle.marks.proofs.Marks.{mark-less, mark-start}
+use Rattle.side_marks.proofs.Marks.{even-told}
 use borrow.Author.Needs.{needs}
 use Rattle.side_marks.proofs.mark_table.Statement.{statement}
 use Rattle.side_marks.proofs.mark_table.Tie as tie
@@ -25,7 +26,7 @@ loop-holds : tie.Need-loop-holds Inv-loop μ-loop
 loop-holds c =
     let s = c .before .before .before .before in
     let g = s .pre .0 in
-    (search needs, rest-refl _, even-start (g .columns) (g .long) (s .pre .1 .1) (s .pre .1 .0))
+    (search needs, rest-refl _, mark-start (s .args .work .now) (g .columns) (g .long) (s .pre .1 .1) (s .pre .1 .0))
 
 -- what is past the table is as on entry
 kept : (c : tie.At-loop Inv-loop μ-loop) → Same-rest (c .before .before .before .before .before .args .work .now) (c .loop .work)
@@ -48,7 +49,7 @@ loop-again : tie.Need-loop-again Inv-loop μ-loop
 loop-again c =
     let l = c .before .before .before .before .before .loop in
     let row = c .before .before .mark-row .ensures in
-    (omega arith, rest-trans (l .inv .1) (row .1), even-at (l .i * 251 + 251) ((l .i + 1) * 251) (omega arith) (row .0))
+    (omega arith, rest-trans (l .inv .1) (row .1), mark-less (l .i * 251 + 251) ((l .i + 1) * 251) (omega arith) (row .0))
 
 same-length : tie.Need-same-length Inv-loop μ-loop
 same-length c = kept (c .before) .long
@@ -57,7 +58,7 @@ returns : tie.Need-returns Inv-loop μ-loop
 returns c =
     let l = c .before .loop in
     let g = c .before .before .before .before .before .before .pre .0 in
-    (even-told (g .shape) (g .guide) (g .columns) (omega arith) (l .inv .2), kept (c .before))
+    (even-told (g .shape) (g .guide) (g .rows) (g .columns) (omega arith) (l .inv .2), kept (c .before))
 
 pub mark-table-spec : {M : Type 1} → statement M
 mark-table-spec =

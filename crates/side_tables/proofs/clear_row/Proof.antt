@@ -7,7 +7,8 @@ use Rattle.shapes.specs.Lent.{blockAt}
 use Rattle.tables.specs.Table.{Same-rest}
 use Rattle.tables.proofs.Cells.{rest-refl, rest-trans, rest-set, on-table}
 use Rattle.side_tables.specs.Board.{guideOf, Board, ClearFrom}
-use Rattle.side_tables.proofs.Cells.{board-long, near, clear-less, clear-from, clear-cell}
+use Rattle.tables.proofs.Finish.{from-less, from-at}
+use Rattle.side_tables.proofs.Cells.{board-long, near, clear-cell}
 use borrow.Author.Needs.{needs}
 use Rattle.side_tables.proofs.clear_row.Statement.{statement}
 use Rattle.side_tables.proofs.clear_row.Tie as tie
@@ -28,7 +29,7 @@ loop-holds : tie.Need-loop-holds Inv-loop μ-loop
 loop-holds c =
     let s = c .before .before .before .before .before in
     let g = s .pre .0 in
-    (search needs, rest-refl _, clear-less (s .args .i) _ _ (g .columns) refl refl (s .pre .1 .1))
+    (search needs, rest-refl _, from-less (s .args .i) _ _ (g .columns) refl refl (s .pre .1 .1))
 
 sub-q : tie.Need-sub-q Inv-loop μ-loop
 sub-q c = omega arith
@@ -92,7 +93,7 @@ loop-again c =
     let et = c .before .before .block-at3 .ensures in (
       omega arith,
       rest-trans (l .inv .1) (rest-set _ _ _ p),
-      clear-cell (g .shape) (g .guide) (s .args .i) (l .q - 1) (s .pre .1 .0) (omega arith) (clear-from before (l .inv .2))
+      clear-cell (g .shape) (g .guide) (s .args .i) (l .q - 1) (s .pre .1 .0) (omega arith) (from-at before (l .inv .2))
           (t .before .before .block-at .ensures) (ap (λ (z : Block). z .base) es) (ap (λ (z : Block). z .base) et) (ap (λ (z : Block). z .lower) et) (g .columns) _ (omega arith) (c .clears .ensures),
     )
 
@@ -103,7 +104,7 @@ returns : tie.Need-returns Inv-loop μ-loop
 returns c =
     let l = c .before .loop in
     let i = c .before .before .before .before .before .before .before .args .i in
-    (clear-from (let e : i * 251 + l .q ≡ i * 251 = omega arith in e) (l .inv .2), l .inv .1)
+    (from-at (let e : i * 251 + l .q ≡ i * 251 = omega arith in e) (l .inv .2), l .inv .1)
 
 pub clear-row-spec : {M : Type 1} → statement M
 clear-row-spec =

@@ -5,7 +5,7 @@ use native.Mathlib.Omega.{arith}
 use Rattle.shapes.specs.Lent.{blockAt}
 use Rattle.tables.specs.Table.{Grid, FinishFrom, Same-rest}
 use Rattle.tables.proofs.Cells.{rest-refl, rest-trans, rest-set, on-table, grid-long, near}
-use Rattle.tables.proofs.Finish.{finish-less, finish-from, finish-cell}
+use Rattle.tables.proofs.Finish.{from-less, from-at, finish-cell}
 use borrow.Author.Needs.{needs}
 use Rattle.tables.proofs.finish_row.Statement.{statement}
 use Rattle.tables.proofs.finish_row.Tie as tie
@@ -26,7 +26,7 @@ loop-holds : tie.Need-loop-holds Inv-loop μ-loop
 loop-holds c =
     let s = c .before .before .before .before in
     let g = s .pre .0 in
-    (search needs, rest-refl _, finish-less (s .args .i) _ _ (g .columns) refl refl (s .pre .1 .1))
+    (search needs, rest-refl _, from-less (s .args .i) _ _ (g .columns) refl refl (s .pre .1 .1))
 
 sub-j : tie.Need-sub-j Inv-loop μ-loop
 sub-j c = omega arith
@@ -82,7 +82,7 @@ loop-again c =
     let before : s .args .i * 251 + l .j ≡ s .args .i * 251 + (l .j - 1) + 1 = omega arith in (
       omega arith,
       rest-trans (l .inv .1) (rest-set _ _ _ p),
-      finish-cell (g .first) (g .second) (s .args .i) (l .j - 1) (s .pre .1 .0) (omega arith) (finish-from before (l .inv .2))
+      finish-cell (g .first) (g .second) (s .args .i) (l .j - 1) (s .pre .1 .0) (omega arith) (from-at before (l .inv .2))
           (t .before .before .block-at .ensures) (c .before .before .block-at2 .ensures) (g .columns) _ (omega arith) (c .finishes .ensures),
     )
 
@@ -93,7 +93,7 @@ returns : tie.Need-returns Inv-loop μ-loop
 returns c =
     let l = c .before .loop in
     let i = c .before .before .before .before .before .before .args .i in
-    (finish-from (let e : i * 251 + l .j ≡ i * 251 = omega arith in e) (l .inv .2), l .inv .1)
+    (from-at (let e : i * 251 + l .j ≡ i * 251 = omega arith in e) (l .inv .2), l .inv .1)
 
 pub finish-row-spec : {M : Type 1} → statement M
 finish-row-spec =
