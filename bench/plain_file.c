@@ -5,7 +5,6 @@
 // The bytes still to be read. What is read departs from the grammar where a function answers 0.
 struct reader {
     const uint8_t *at, *end;
-    uint64_t line;
 };
 
 static int word(struct reader *r, const char *w) {
@@ -37,18 +36,18 @@ static int hex(struct reader *r, uint64_t *v) {
     return 1;
 }
 
-static int head(struct reader *r, const char *w, uint64_t most, uint64_t *n) { return word(r, w) && decimal(r, '\n', n) && *n <= most && ++r->line; }
+static int head(struct reader *r, const char *w, uint64_t most, uint64_t *n) { return word(r, w) && decimal(r, '\n', n) && *n <= most; }
 
 // The three sections and nothing after them.
 static int book(struct reader *r, uint64_t *sizes, uint64_t *counts, uint64_t *blocks, uint64_t *rules) {
     if (!head(r, "TEXTS ", 8, &sizes[0])) return 0;
-    for (size_t i = 0; i < sizes[0]; i++, r->line++)
+    for (size_t i = 0; i < sizes[0]; i++)
         if (!decimal(r, '\n', &counts[i])) return 0;
     if (!head(r, "BLOCKS ", 256, &sizes[1])) return 0;
-    for (size_t i = 0; i < 4 * sizes[1]; i += 4, r->line++)
+    for (size_t i = 0; i < 4 * sizes[1]; i += 4)
         if (!hex(r, &blocks[i + 1]) || !hex(r, &blocks[i]) || !word(r, " ") || !decimal(r, ' ', &blocks[i + 2]) || !decimal(r, '\n', &blocks[i + 3])) return 0;
     if (!head(r, "RULES ", 16, &sizes[2])) return 0;
-    for (size_t i = 0; i < 3 * sizes[2]; i += 3, r->line++)
+    for (size_t i = 0; i < 3 * sizes[2]; i += 3)
         if (!decimal(r, ' ', &rules[i]) || !decimal(r, ' ', &rules[i + 1]) || !decimal(r, '\n', &rules[i + 2])) return 0;
     return r->at == r->end;
 }
@@ -73,21 +72,13 @@ static uint8_t *put_hex(uint8_t *to, uint64_t n) {
     return to;
 }
 
-static size_t refused(uint8_t *report, struct refusal why) {
-    uint8_t *to = put_decimal(put(report, "REFUSED "), why.number, ' ');
-    return put_decimal(put_decimal(to, why.text, ' '), why.place, '\n') - report;
-}
-
 uint64_t plain_file(const uint8_t *file, size_t n, uint8_t *report, size_t k) {
     static uint8_t work[63001];
     static uint64_t counts[8], blocks[1024], rules[48];
     uint64_t sizes[3];
-    struct reader r = {file, file + n, 1};
-    if (k < 16384) return REFUSED;
-    if (n > 16384) return refused(report, (struct refusal){9, 0, 0});
-    if (!book(&r, sizes, counts, blocks, rules)) return refused(report, (struct refusal){8, 0, r.line});
-    struct refusal why = plain_check_book(counts, sizes[0], blocks, 4 * sizes[1], rules, 3 * sizes[2], sizeof work);
-    if (why.number) return refused(report, why);
+    struct reader r = {file, file + n};
+    if (n > 16384 || !book(&r, sizes, counts, blocks, rules)) return REFUSED;
+    if (plain_check_book(counts, sizes[0], blocks, 4 * sizes[1], rules, 3 * sizes[2], sizeof work).number || k < 16384) return REFUSED;
     uint64_t made = plain_rounds(counts, sizes[0], blocks, 4 * sizes[1], rules, 3 * sizes[2], work, sizeof work);
     if (made & NONE) return put_decimal(put(report, "NONE "), made ^ NONE, '\n') - report;
     uint8_t *to = put_decimal(put(report, "STABLE "), made, '\n');

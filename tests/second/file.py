@@ -225,12 +225,12 @@ def book_read(file):
 # The report.
 
 
-def report(file):
-    try:
-        counts, words, rules = book_read(file)
-        shapes, triples = book_of(counts, words, rules)
-    except Refused as refusal:
-        return b"REFUSED %d %d %d\n" % refusal.args
+def run_file(file, room):
+    """The report of a file's book, for an output of so many bytes. Refusals in their order: 9, 8, the book's, then 5."""
+    counts, words, rules = book_read(file)
+    shapes, triples = book_of(counts, words, rules)
+    if room < REPORT_WANTED:
+        raise Refused(5, 0, 0)
     final, applications = run(shapes, triples)
     if max(shape_total(shape) for shape in shapes) <= 40:
         hold_to_laws(shapes, triples, final)
@@ -238,6 +238,14 @@ def report(file):
         return b"NONE %d\n" % applications
     words = [word for shape in final for word in words_of(shape)]
     return b"STABLE %d\n" % applications + texts_and_blocks(counts, words).encode()
+
+
+def report(file):
+    """What the program prints."""
+    try:
+        return run_file(file, REPORT_WANTED)
+    except Refused as refusal:
+        return b"REFUSED %d %d %d\n" % refusal.args
 
 
 def hold_to_example():
@@ -254,9 +262,11 @@ def bytes_read(field):
 def expected_line(line):
     _, length, field = line.split(" ")
     length = int(length, 16)
-    if length < REPORT_WANTED:
-        return f"{Refused(5, 0, 0).line} rest {length}"
-    text = report(bytes_read(field))
+    try:
+        text = run_file(bytes_read(field), length)
+    except Refused as refusal:
+        # All of the output is as on entry.
+        return f"{refusal.line} rest {length}"
     if len(text) > REPORT_WANTED or b"Z" in text or b"/" in text:
         raise AssertionError(f"a report that cannot be shown: {text}")
     return f"report {len(text)} {text.decode().replace(chr(10), '/')} rest {length - len(text)}"
@@ -555,22 +565,23 @@ def size_cases(cases):
     filler = b"0 1 2\n" * 3000
     cases.file((EXAMPLE + filler)[:MOST_BYTES])
     cases.file((EXAMPLE + filler)[: MOST_BYTES + 1])
-    cases.file(b"\n" * MOST_BYTES)
-    cases.file(b"Z" * (MOST_BYTES + 1))
+    # The file's refusals come before that of an output too short.
     cases.file((EXAMPLE + filler)[: MOST_BYTES + 1], REPORT_WANTED - 1)
+    cases.file(b"\n" * MOST_BYTES, REPORT_WANTED - 1)
+    cases.file(b"Z" * (MOST_BYTES + 1), 0)
 
 
 def report_cases(cases):
-    """Reports too short, exact and longer; too short comes before all else."""
+    """Reports too short, exact and longer: too short is the last refusal, behind the file's and the book's."""
     files = [EXAMPLE, PLAIN, b"", EXAMPLE[:-1], EXAMPLE + b"\n"]
     files += [file_of([written("a1..1"), written("b1..1")], [(0, 1, 2)])]
     files += [file_of([BAD], []), file_of([HEAVY * 2], []), file_of([GOOD], [(0, 1, 1)]), book_file([], [], [])]
     for file in files:
-        for length in (REPORT_WANTED - 1, REPORT_WANTED, REPORT_WANTED + 1, LONGEST_REPORT):
+        for length in (0, REPORT_WANTED - 1, REPORT_WANTED, REPORT_WANTED + 1, LONGEST_REPORT):
             cases.file(file, length)
-    for length in (0, 1, 13, 14, 15, 100, 109, 250, 4_096, 16_000):
-        cases.file(EXAMPLE, length)
-        cases.file(b"", length)
+    for length in (1, 13, 14, 15, 100, 109, 250, 4_096, 16_000):
+        for file in (EXAMPLE, b"", file_of([BAD], [])):
+            cases.file(file, length)
 
 
 def all_cases():

@@ -40,7 +40,7 @@ after the call, and the work buffer as above.
                                | refused number text place blocks work z e
 
 file. A report of k bytes, each 0x5a, and the file's bytes as hex pairs, `-` if it is empty. The report is
-shown with `/` for each newline; e counts the untouched bytes at its end.
+shown with `/` for each newline; e counts the untouched bytes at its end, all of them where the file is refused.
 
     F k file         report length text rest e | refused number text place rest e
 """

@@ -1,6 +1,5 @@
 -- The laws of a base: where its words' bits stand, when it is empty, and its least and greatest character. Assumes nothing.
 use mathlib.Core.Path.{_≡_, refl, sym, ap, _∙_, subst}
-use mathlib.Core.Bool.{true, false, false≢true}
 use mathlib.Core.List.{List, [], _∷_}
 use mathlib.Core.Logic.{_⊎_, inl, inr, ⊎-elim}
 use Prim.Native.Nat.{ℕ, zero, suc, _+_, _-_, _*_, _/_, _%_, _^_, _≤_, _<_}
@@ -10,11 +9,9 @@ use native.Mathlib.Omega.{arith}
 use lib.Arith.{bin-ind, digits-lt}
 use lib.Bits.{block-half, block-odd}
 use lib.Count.{trailingZeros, under, leadingZeros, leading-top}
-use lib.Dec.{lit<, eqb}
+use lib.Dec.{lit<}
 use lib.Pow.{pow-mono, shr-shr, shr-lt, high}
-use borrow.Author.Tests.{eqb-true, eqb-false}
 use Rattle.bases.specs.Base.{baseOf, Holds, Empty, Least, Greatest, leastOf, greatestOf}
-use Rattle.bases.specs.Tells.{Tells}
 use Rattle.bases.proofs.Plain.{lt-or-le, eq-or-ne}
 
 -- bit c + 1 of n is bit c of n / 2
@@ -226,10 +223,3 @@ greatest-of b h n =
 pub words-bound : (w v : ℕ) → w < 2 ^ 64 → v < 2 ^ 64 → baseOf (w ∷ (v ∷ [])) < 2 ^ 128
 unfolding baseOf
 words-bound w v h g = digits-lt (subst (λ (x : ℕ). x < 2 ^ 64) (sym (one-word v)) g) h
-
--- a test of a bit tells what the bit says
-pub tells-bit : {P : Type 0} (x : ℕ) → (x ≡ 1 → P) → (P → x ≡ 1) → Tells (eqb x 1) P
-tells-bit x f g = record { so = λ e. f (eqb-true x 1 e); not-so = λ e p. eqb-false x 1 e (g p) }
-
-pub tells-false : {P : Type 0} → (P → ⊥) → Tells false P
-tells-false n = record { so = λ e. absurd (false≢true e); not-so = λ e p. n p }

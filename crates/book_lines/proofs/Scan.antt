@@ -1,13 +1,11 @@
 -- What the loops over a line's bytes find. Assumes nothing.
 use mathlib.Core.Path.{_≡_, sym, ap, _∙_, subst}
-use mathlib.Core.Bool.{true}
 use mathlib.Core.List.{List}
 use Prim.Native.Nat.{ℕ, _+_, _≤_, _<_}
 use native.Mathlib.Omega.{arith}
 use borrow.Author.Count.{below-more}
 use lib.ListN.{length, getD, take, length-take}
 use lib.Seq.{ext-getD, getD-take, length-take-le, take-all}
-use Rattle.bases.specs.Tells.{Tells}
 use Rattle.shapes.proofs.All.{all-one-more}
 use Rattle.book_lines.specs.Lines.{Without}
 
@@ -38,9 +36,6 @@ differs line word i h d e = d (sym (getD-take (length word) line i 0 h) ∙ ap (
 
 pub too-short : (line word : List ℕ) → length line < length word → take (length word) line ≡ word → ⊥
 too-short line word h e = let all = take-all (length word) line (omega arith) in let f = ap length (sym all ∙ e) in omega arith
-
-pub tells-true : {P : Type 0} → P → Tells true P
-tells-true p = record { so = λ e. p; not-so = λ e. absurd (let z : _≡_ {A = ℕ} 0 1 = cc in omega arith) }
 
 pub front-long : (line word : List ℕ) → take (length word) line ≡ word → length word ≤ length line
 front-long line word e = let f = ap length (sym e) ∙ length-take (length word) line in omega arith

@@ -2,15 +2,10 @@
 use mathlib.Core.List.{List, [], _∷_, _++_, map}
 use Prim.Native.Nat.{ℕ, _^_, _≤_, _<_}
 use lib.ListN.{length}
+use Rattle.rules.specs.declared.Rule.{Rule}
 use Rattle.shapes.specs.All.{All}
 use Rattle.shapes.specs.Shape.{Block}
 use Rattle.numerals.specs.Digits.{digits, decimal}
-
--- A rule is (kind, a, b).
-pub record Rule : Type 0 where
-  pub kind : ℕ
-  pub first : ℕ
-  pub second : ℕ
 
 -- A book: the block count of each text, the blocks of all texts, the rules.
 pub record Book : Type 0 where
@@ -41,7 +36,7 @@ unfoldable pub blockLine : Block → List ℕ
 blockLine b = digits 16 32 (b .base) ++ 32 ∷ twoNumbers (b .lower) (b .upper)
 
 unfoldable pub ruleLine : Rule → List ℕ
-ruleLine r = decimal (r .kind) ++ 32 ∷ twoNumbers (r .first) (r .second)
+ruleLine r = decimal (r .kind) ++ 32 ∷ twoNumbers (r .a) (r .b)
 
 -- A book's lines: three sections, each after its count.
 unfoldable pub linesOf : Book → List (List ℕ)
@@ -71,8 +66,8 @@ pub record RightBlock (b : Block) : Type 0 where
 
 pub record RightRule (r : Rule) : Type 0 where
   pub kind : Small (r .kind)
-  pub first : Small (r .first)
-  pub second : Small (r .second)
+  pub a : Small (r .a)
+  pub b : Small (r .b)
 
 -- Texts over 8, blocks over 256 or rules over 16 depart.
 pub record InGrammar (b : Book) : Type 0 where

@@ -3,6 +3,7 @@ use mathlib.Core.Path.{_≡_}
 use mathlib.Core.List.{List}
 use Prim.Native.Nat.{ℕ, _≤_, _<_}
 use lib.ListN.{length, getD, take}
+use Rattle.rules.specs.Rule.{ruleOf}
 use Rattle.numerals.specs.declared.Number.{Number}
 use Rattle.numerals.specs.declared.Number.the-variants.{Is as is, Not as none}
 use Rattle.shapes.specs.All.{All}
@@ -15,7 +16,7 @@ use Rattle.book_lines.specs.declared.Triple.{Triple}
 use Rattle.book_lines.specs.declared.Triple.the-variants.{Is as triple, Not as no-triple}
 use Rattle.book_lines.specs.declared.BlockLine.{BlockLine}
 use Rattle.book_lines.specs.declared.BlockLine.the-variants.{Is as block, Not as no-block}
-use Rattle.book_lines.specs.Book.{Rule, Small, RightBlock, RightRule, twoNumbers, blockLine, ruleLine, headLine}
+use Rattle.book_lines.specs.Book.{Small, RightBlock, RightRule, twoNumbers, blockLine, ruleLine, headLine}
 
 -- no byte of t is b
 abbrev pub Without : ℕ → List ℕ → Type 0
@@ -45,9 +46,6 @@ HeadRead word most t none = SaysNone (λ (m : ℕ). m ≤ most) (headLine word) 
 abbrev pub TwoRead : List ℕ → Two → Type 0
 TwoRead t (two a b) = Small a × Small b × (t ≡ twoNumbers a b)
 TwoRead t no-two = (a b : ℕ) → Small a → Small b → t ≡ twoNumbers a b → ⊥
-
-abbrev pub ruleOf : ℕ → ℕ → ℕ → Rule
-ruleOf k a b = record { kind = k; first = a; second = b }
 
 abbrev pub TripleRead : List ℕ → Triple → Type 0
 TripleRead t (triple k a b) = Says RightRule ruleLine t (ruleOf k a b)

@@ -9,10 +9,9 @@ use Rattle.answers.specs.declared.Ran.the-variants.{Stable, None, Refused}
 use Rattle.shapes.specs.Shape.{Block}
 use Rattle.shapes.specs.Lent.{wordsOf}
 use Rattle.hulls.specs.Hull.{none, shapes}
-use Rattle.books.specs.Rules.{AllIn}
 use Rattle.books.proofs.Refused.{book-one, book-not}
-use Rattle.book_runs.specs.Walk.{RunStable, RunNone, RunPromise}
-use Rattle.book_runs.proofs.Walk.{walk-one, run-permuted}
+use Rattle.book_runs.specs.Walk.{RunPromise}
+use Rattle.book_runs.proofs.Walk.{walk-one}
 
 -- an outcome is none, or some shapes
 pub same-shapes : {H J : List Block} → shapes H ≡ shapes J → H ≡ J
@@ -36,12 +35,3 @@ run-determined counts blocks rules work b b′ w w′ (Refused r) (Stable l) p q
 run-determined counts blocks rules work b b′ w w′ (Refused r) (None l) p q = absurd (book-not (p .0) (q .0 .accepted))
 run-determined counts blocks rules work b b′ w w′ (Refused r) (Refused s) p q =
     (ap Refused (told-one r s (book-one (p .0) (q .0))), p .1 ∙ sym (q .1), p .2 ∙ sym (q .2))
-
--- ---- an accepted book with its rules in another order: the same verdict and the same final shapes, with whatever count
-
-module _ {counts blocks rules others work b b′ : List ℕ} {m l : ℕ} (to : AllIn rules others) (from : AllIn others rules) where
-  pub permuted-left : RunStable counts blocks rules work b m → RunStable counts blocks others work b′ l → b ≡ b′
-  permuted-left p q = p .left ∙ ap wordsOf (same-shapes (run-permuted counts blocks rules others to from (p .run) (q .run))) ∙ sym (q .left)
-
-  pub permuted-verdict : RunStable counts blocks rules work b m → RunNone counts blocks others work b′ l → ⊥
-  permuted-verdict p q = not-none (sym (run-permuted counts blocks rules others to from (p .run) (q .run)))

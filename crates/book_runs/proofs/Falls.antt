@@ -17,11 +17,8 @@ use Rattle.shapes.specs.Shape.{Block, Sound, Small}
 use Rattle.hulls.specs.Hull.{Hull}
 use Rattle.hulls.specs.Book.{Inside, Within, end, next}
 use Rattle.hulls.proofs.Hull.{hull-within, hull-sound}
+use Rattle.hulls.proofs.Small.{sub-half}
 use Rattle.book_runs.specs.Room.{held, roomOf}
-
-sub-half : (a b : ℕ) → ((c : ℕ) → Holds a c → Holds b c) → (c : ℕ) → Holds (a / 2) c → Holds (b / 2) c
-unfolding Holds
-sub-half a b s c h = sym (halved b c) ∙ s (suc c) (halved a c ∙ h)
 
 sub-bit : (a b : ℕ) → ((c : ℕ) → Holds a c → Holds b c) → a % 2 ≤ b % 2
 unfolding Holds
@@ -51,18 +48,6 @@ pub held-most : (k b : ℕ) → held k b ≤ k
 unfolding held
 held-most zero b = omega arith
 held-most (suc k) b = let h = held-most k (b / 2) in let g = mod-lt b {m = 2} (lit< tt) in omega arith
-
--- what a base below 2 ^ k holds is below it too
-sub-small : (k a b : ℕ) → b < 2 ^ k → ((c : ℕ) → Holds a c → Holds b c) → a < 2 ^ k
-unfolding Empty
-sub-small zero a b l s =
-    let zero-b : b ≡ 0 = omega arith in
-    let zero-a : a ≡ 0 = empty-zero a (λ c h. none-in-zero c (subst (λ (x : ℕ). Holds x c) zero-b (s c h))) in
-    omega arith
-sub-small (suc k) a b l s =
-    let h = sub-small k (a / 2) (b / 2) (shr-lt k 1 (rw add-one l)) (sub-half a b s) in
-    let e : 2 ^ suc k ≡ 2 * 2 ^ k = pow-succ' 2 k in
-    omega arith
 
 -- ---- blocks
 
@@ -112,10 +97,6 @@ within-falls (more s r) (more k l) (next {h} {b} {H} {S} p w) d = ⊎-elim
     omega arith)
     (λ e. let first = inside-falls s k p e in let rest = within-room w in omega arith)
     (same-block h b)
-
-pub within-small : {H S : List Block} → Within H S → All Small S → All Small H
-within-small end k = All.none
-within-small (next {h} {b} p w) (more k l) = more (sub-small 128 (h .base) (b .base) k (p .base)) (within-small w l)
 
 pub room-bound : {S : List Block} → All Sound S → roomOf S ≤ length S * 378
 unfolding roomOf

@@ -9,9 +9,10 @@ use Rattle.answers.specs.declared.Ran.{Ran}
 use Rattle.answers.specs.declared.Ran.the-variants.{Stable as is-stable, None as is-none, Refused}
 use Rattle.shapes.specs.Shape.{Block}
 use Rattle.shapes.specs.Lent.{shapeOf, wordsOf}
-use Rattle.pairs.specs.Narrow.{cleared}
+use Rattle.pairs.specs.Narrow.{Cleared}
 use Rattle.hulls.specs.Hull.{None, Hull, Outcome, none, shapes}
-use Rattle.books.specs.Rules.{ruleCount, ruleOf}
+use Rattle.rules.specs.Rule.{ruleCount}
+use Rattle.books.specs.Rules.{ruleOf}
 use Rattle.books.specs.Refused.{BookRefused, BookAccepted}
 
 -- The runner applies the n rules in book order, round after round, each on the blocks so far.
@@ -46,10 +47,6 @@ pub record RunNone (counts blocks rules work blocks′ : List ℕ) (m : ℕ) : T
   pub accepted : BookAccepted counts blocks rules (length work)
   pub run : BookRun counts blocks rules none m
   pub left : blocks′ ≡ blocks
-
--- "Numbers given back": after an accepted call the first 63,001 bytes of the work buffer are 0 and the rest untouched.
-abbrev pub Cleared : List ℕ → List ℕ → Type 0
-Cleared work work′ = work′ ≡ cleared 63001 work
 
 -- The run of a book: blocks and work before and after the call.
 abbrev pub RunPromise : List ℕ → List ℕ → List ℕ → List ℕ → List ℕ → List ℕ → Ran → Type 0

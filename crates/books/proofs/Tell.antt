@@ -1,20 +1,18 @@
--- An answer of true where something holds; and what the texts and rules that a check has passed say of all. Assumes nothing.
+-- What the texts that a check has passed say of all. Assumes nothing.
 use mathlib.Core.Path.{_≡_, subst}
-use mathlib.Core.Bool.{true, true≢false}
 use mathlib.Core.List.{List}
 use mathlib.Core.Logic.{⊎-elim}
-use Prim.Native.Nat.{ℕ, _+_, _<_}
+use Prim.Native.Nat.{ℕ, _+_, _-_, _<_}
 use native.Mathlib.Omega.{arith}
 use lib.ListN.{length}
-use Rattle.bases.specs.Tells.{Tells}
 use Rattle.bases.proofs.Plain.{lt-or-le}
 use Rattle.shapes.specs.Shape.{Block}
-use Rattle.books.specs.Counts.{SoundText}
+use Rattle.answers.specs.Told.{Told}
+use Rattle.shapes.specs.Lent.{BlocksRefused}
+use Rattle.shapes.proofs.Refused.{blocks-not}
+use Rattle.books.specs.Counts.{shapeIn, SoundText}
 use Rattle.books.specs.Rules.{Names}
-use Rattle.books.specs.Refused.{SoundTexts}
-
-pub tells-true : {P : Type 0} → P → Tells true P
-tells-true p = record { so = λ e. p; not-so = λ e q. absurd (true≢false e) }
+use Rattle.books.specs.Refused.{SoundTexts, FirstText}
 
 -- the texts before text k are sound
 abbrev pub SoundBefore : List ℕ → List Block → ℕ → Type 0
@@ -25,6 +23,24 @@ none-before counts S i n l = absurd (let h = n .from-one in omega arith)
 
 pub one-more-text : (counts : List ℕ) (S : List Block) (k : ℕ) → SoundBefore counts S k → SoundText counts S k → SoundBefore counts S (k + 1)
 one-more-text counts S k f s i n l = ⊎-elim (λ h. f i n h) (λ h. let e : k ≡ i = omega arith in subst (SoundText counts S) e s) (lt-or-le i k)
+
+-- the next is refused: it is the first
+pub first-text : (counts : List ℕ) (S : List Block) (k : ℕ) {t : Told} → Names counts k → SoundBefore counts S k → BlocksRefused k (shapeIn counts S k) t
+    → FirstText counts S k t
+first-text counts S k n f r =
+    let one = n .from-one in
+    let last = n .within in
+    let back : k - 1 + 1 ≡ k = omega arith in
+    record {
+      first = record {
+        before = k - 1;
+        place = omega arith;
+        within = omega arith;
+        good = λ i l. f (i + 1) (record { from-one = omega arith; within = omega arith }) (omega arith);
+        bad = λ s. let sound = subst (SoundText counts S) back s in blocks-not r (sound .sound) (sound .short);
+      };
+      refused = r;
+    }
 
 pub all-texts : (counts : List ℕ) (S : List Block) (k : ℕ) → length counts < k → SoundBefore counts S k → SoundTexts counts S
 all-texts counts S k h f = record { each = λ i n. f i n (let w = n .within in omega arith) }

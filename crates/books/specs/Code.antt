@@ -1,21 +1,15 @@
 -- What the inner functions of the check answer.
 use mathlib.Core.Path.{_≡_}
 use mathlib.Core.List.{List}
-use Prim.Native.Nat.{ℕ, _+_, _*_, _≤_, _<_}
+use Prim.Native.Nat.{ℕ, _+_, _*_, _≤_}
 use lib.ListN.{take, drop}
 use Rattle.answers.specs.Told.{told}
 use Rattle.answers.specs.declared.Checked.{Checked}
 use Rattle.answers.specs.declared.Checked.the-variants.{Sound as is-sound, Refused}
 use Rattle.shapes.specs.Shape.{Block}
 use Rattle.books.specs.declared.Place.{Place}
-use Rattle.books.specs.declared.Rule.{Rule}
-use Rattle.books.specs.Rules.{Triple, ruleAt, ruleCount, RightRule}
 use Rattle.books.specs.Counts.{sumOf, countOf, firstOf}
 use Rattle.books.specs.Refused.{SoundTexts, FirstText}
-
--- the numbers of a rule as the code carries them, and the rule they mean
-abbrev pub meantRule : Rule → Triple
-meantRule r = record { kind = r .kind; a = r .a; b = r .b }
 
 -- where text k stands among the numbers of all, four to a block, and that it stands within them
 pub record PlaceOf (counts : List ℕ) (k : ℕ) (r : Place) : Type 0 where
@@ -28,12 +22,6 @@ pub record PlaceOf (counts : List ℕ) (k : ℕ) (r : Place) : Type 0 where
 abbrev pub TextsChecked : List ℕ → List Block → Checked → Type 0
 TextsChecked counts S is-sound = SoundTexts counts S
 TextsChecked counts S (Refused r) = (k : ℕ) × FirstText counts S k (told r)
-
--- the first r rules are right, and the next, if there is one, is wrong
-pub record RightUpTo (counts rules : List ℕ) (r : ℕ) : Type 0 where
-  pub within : r ≤ ruleCount rules
-  pub right : (j : ℕ) → j < r → RightRule counts (ruleAt rules j)
-  pub wrong : r < ruleCount rules → RightRule counts (ruleAt rules r) → ⊥
 
 -- the numbers of text k, of those lent for all
 abbrev pub numbersIn : List ℕ → List ℕ → ℕ → List ℕ

@@ -1,8 +1,9 @@
 -- Document 01, "A book and its run": the counts of a book, and where its texts stand in the blocks, which are lent end to end.
 use mathlib.Core.Path.{_≡_}
 use mathlib.Core.List.{List, [], _∷_}
-use Prim.Native.Nat.{ℕ, _+_, _-_, _*_, _/_, _%_, _≤_}
+use Prim.Native.Nat.{ℕ, _+_, _-_, _*_, _%_, _≤_}
 use lib.ListN.{length, getD, take, drop}
+use Rattle.rules.specs.Rule.{ruleSize, ruleCount}
 use Rattle.shapes.specs.All.{All}
 use Rattle.shapes.specs.Shape.{Block, Sound, total}
 
@@ -23,8 +24,8 @@ pub record RightCounts (counts blocks rules : List ℕ) : Type 0 where
   pub few-texts : length counts ≤ 8
   pub each : All RightCount counts
   pub whole-blocks : length blocks ≡ sumOf counts * 4
-  pub whole-rules : length rules % 3 ≡ 0
-  pub few-rules : length rules / 3 ≤ 16
+  pub whole-rules : length rules % ruleSize ≡ 0
+  pub few-rules : ruleCount rules ≤ 16
 
 -- Texts count from 1. Text k has as many blocks as its count says, and begins after the blocks of the texts before it.
 abbrev pub countOf : List ℕ → ℕ → ℕ

@@ -2,13 +2,16 @@
 use mathlib.Core.Path.{_≡_}
 use mathlib.Core.List.{List}
 use Prim.Native.Nat.{ℕ, _+_, _≤_, _<_}
+use lib.ListN.{length}
 use Rattle.answers.specs.Told.{Told, tell, told}
 use Rattle.answers.specs.declared.Checked.{Checked}
 use Rattle.answers.specs.declared.Checked.the-variants.{Sound as is-sound, Refused}
+use Rattle.rules.specs.Rule.{ruleAt, ruleCount}
+use Rattle.shapes.specs.FirstBad.{FirstBad}
 use Rattle.shapes.specs.Shape.{Block}
 use Rattle.shapes.specs.Lent.{shapeOf, BlocksRefused}
 use Rattle.books.specs.Counts.{RightCounts, shapeIn, SoundText}
-use Rattle.books.specs.Rules.{ruleAt, ruleCount, Names, RightRule}
+use Rattle.books.specs.Rules.{Names, RightRule}
 
 -- Every text has a sound shape; and every rule is right.
 pub record SoundTexts (counts : List ℕ) (S : List Block) : Type 0 where
@@ -19,17 +22,12 @@ pub record RightRules (counts rules : List ℕ) : Type 0 where
 
 -- Text k is the first that 2 or 3 refuses, and this is what it is told: the text's number, and a block within its own shape.
 pub record FirstText (counts : List ℕ) (S : List Block) (k : ℕ) (t : Told) : Type 0 where
-  pub named : Names counts k
-  pub sound : (i : ℕ) → Names counts i → i < k → SoundText counts S i
+  pub first : FirstBad (length counts) (λ i. SoundText counts S (i + 1)) k
   pub refused : BlocksRefused k (shapeIn counts S k) t
 
 -- Rule number i, from 1, is the first that is wrong.
-pub record FirstWrong (counts rules : List ℕ) (i : ℕ) : Type 0 where
-  pub before : ℕ
-  pub place : i ≡ before + 1
-  pub within : before < ruleCount rules
-  pub right : (j : ℕ) → j < before → RightRule counts (ruleAt rules j)
-  pub wrong : RightRule counts (ruleAt rules before) → ⊥
+abbrev pub FirstWrong : List ℕ → List ℕ → ℕ → Type 0
+FirstWrong counts rules i = FirstBad (ruleCount rules) (λ j. RightRule counts (ruleAt rules j)) i
 
 -- The refusals of a book, for a work buffer of `work` bytes.
 pub data BookRefused (counts blocks rules : List ℕ) (work : ℕ) (t : Told) : Type 0 where

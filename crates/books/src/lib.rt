@@ -1,6 +1,7 @@
 // A book of rules: which lent numbers are one, and why others are refused.
 use answers::Checked;
 use answers::Refusal;
+use rules::Rule;
 ghost use mathlib.Core.Path.{_≡_};
 ghost use Prim.Native.Nat.{_*_, _≤_, _<_};
 ghost use lib.ListN.{length, take};
@@ -8,16 +9,11 @@ ghost use Rattle.bases.specs.Tells.{Tells};
 ghost use Rattle.shapes.specs.All.{All};
 ghost use Rattle.shapes.specs.Lent.{shapeOf, BlocksChecked};
 ghost use Rattle.books.specs.Counts.{sumOf, RightCount, RightCounts, shapeIn};
-ghost use Rattle.books.specs.Rules.{ruleAt, ruleCount, Names, RightRule};
+ghost use Rattle.rules.specs.Rule.{ruleAt, ruleCount};
+ghost use Rattle.shapes.specs.FirstBad.{UpTo};
+ghost use Rattle.books.specs.Rules.{Names, RightRule};
 ghost use Rattle.books.specs.Refused.{BookChecked};
-ghost use Rattle.books.specs.Code.{meantRule, PlaceOf, RightUpTo, TextsChecked};
-
-// The three numbers of a rule.
-pub struct Rule {
-    pub kind: u64,
-    pub a: u64,
-    pub b: u64,
-}
+ghost use Rattle.books.specs.Code.{PlaceOf, TextsChecked};
 
 // Where the numbers of a text begin, and where they end.
 pub struct Place {
@@ -75,10 +71,10 @@ fn right_counts(counts: &[u64], blocks: &[u64], rules: &[u64]) -> bool
     if !right_each(counts) {
         return false;
     }
-    if rules.len() % 3 != 0 {
+    if rules.len() % rules::SIZE != 0 {
         return false;
     }
-    if 48 < rules.len() {
+    if 16 < rules.len() / rules::SIZE {
         return false;
     }
     let sum = blocks_before(counts, n);
@@ -134,19 +130,6 @@ fn check_texts(counts: &[u64], blocks: &[u64]) -> Checked
     Checked::Sound
 }
 
-// Rule j, from 0.
-pub fn rule_at(rules: &[u64], j: usize) -> Rule
-    requires { ⌜ j < ruleCount (now rules) ⌝ }
-    ensures { λ r. ⌜ meantRule r ≡ ruleAt (now (rules .entry)) j ⌝ }
-{
-    let at = j * 3;
-    Rule {
-        kind: rules[at],
-        a: rules[at + 1],
-        b: rules[at + 2],
-    }
-}
-
 // Whether k is a text's number.
 fn names(counts: &[u64], k: u64) -> bool
     ensures { λ r. ⌜ Tells r (Names (now (counts .entry)) k) ⌝ }
@@ -162,7 +145,7 @@ fn names(counts: &[u64], k: u64) -> bool
 
 // Whether a rule is right. The numbers may be any.
 fn right_rule(counts: &[u64], rule: Rule) -> bool
-    ensures { λ r. ⌜ Tells r (RightRule (now (counts .entry)) (meantRule rule)) ⌝ }
+    ensures { λ r. ⌜ Tells r (RightRule (now (counts .entry)) rule) ⌝ }
 {
     if 2 < rule.kind {
         return false;
@@ -181,12 +164,12 @@ fn right_rule(counts: &[u64], rule: Rule) -> bool
 
 // How many rules are right before the first that is wrong.
 fn right_rules(counts: &[u64], rules: &[u64]) -> usize
-    ensures { λ r. ⌜ RightUpTo (now (counts .entry)) (now (rules .entry)) r ⌝ }
+    ensures { λ r. ⌜ UpTo (ruleCount (now (rules .entry))) (λ j. RightRule (now (counts .entry)) (ruleAt (now (rules .entry)) j)) r ⌝ }
 {
-    let n = rules.len() / 3;
+    let n = rules.len() / rules::SIZE;
     let mut j = 0;
     while j < n {
-        let rule = rule_at(rules, j);
+        let rule = rules::rule_at(rules, j);
         if !right_rule(counts, rule) {
             return j;
         }
@@ -206,7 +189,7 @@ pub fn check_book(counts: &[u64], blocks: &[u64], rules: &[u64], room: usize) ->
         Checked::Refused(r) => Checked::Refused(r),
         Checked::Sound => {
             let right = right_rules(counts, rules);
-            if right < rules.len() / 3 {
+            if right < rules.len() / rules::SIZE {
                 return Checked::Refused(Refusal::Rule(right as u64 + 1));
             }
             if room < 63001 {

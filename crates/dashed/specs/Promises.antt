@@ -57,6 +57,6 @@ NarrowBefore xs ys work ox oy work′ ox′ oy′ r = NarrowPromise Before xs ys
 abbrev pub RunBook : List ℕ → List ℕ → List ℕ → List ℕ → List ℕ → List ℕ → Ran → Type 0
 RunBook counts blocks rules work blocks′ work′ r = RunPromise counts blocks rules work blocks′ work′ r
 
--- running a book file: the report of how the file ends, at the start of the output
+-- running a book file: the report of its book's run at the start of the output, or a refusal, which leaves the output as on entry
 abbrev pub RunFile : List ℕ → List ℕ → List ℕ → Written → Type 0
 RunFile file report report′ r = FilePromise file report report′ r

@@ -5,10 +5,9 @@ use mathlib.Core.List.{List}
 use Prim.Native.Nat.{ℕ, _+_, _/_, _^_, _≤_, _<_}
 use native.Mathlib.Omega.{arith}
 use lib.ListN.{length, getD, take}
-use Rattle.shapes.specs.Shape.{Block, total}
+use Rattle.shapes.specs.Shape.{Block, total, noBlock}
 use Rattle.shapes.specs.Lent.{blockAt, shapeOf, Accepted}
 use Rattle.shapes.proofs.Lent.{shape-length, shape-at}
-use Rattle.hulls.specs.Hull.{blank}
 use Rattle.rests.specs.Walk.{slotAt, Path, Bounded, Same}
 use Rattle.rests.specs.Collect.{Collected}
 use Rattle.rests.proofs.Walks.{turn-path}
@@ -82,12 +81,12 @@ module _ {x y xs ys : List ℕ} {n m : ℕ} (l : Laid x y xs ys n m) where
   pub side-collected : {T : ℕ → ℕ → ℕ} {o o′ : List ℕ} (room : length x ≤ length o) → Told (blockAt xs) (blockAt ys) n m T
       → Path (slotAt (shapeOf x)) (slotAt (shapeOf y)) (total (shapeOf x)) (total (shapeOf y)) 0 0
       → (s : SideTo T (blockAt ys) m x (length x / 4) o o′) → (i : ℕ) → i < length (shapeOf x)
-      → Collected (slotAt (shapeOf x)) (slotAt (shapeOf y)) (total (shapeOf x)) (total (shapeOf y)) (total (take i (shapeOf x))) (getD (shapeOf x) i blank) (getD (narrowed x o o′ (l .whole-first .blocks) room s) i blank)
+      → Collected (slotAt (shapeOf x)) (slotAt (shapeOf y)) (total (shapeOf x)) (total (shapeOf y)) (total (take i (shapeOf x))) (getD (shapeOf x) i noBlock) (getD (narrowed x o o′ (l .whole-first .blocks) room s) i noBlock)
   side-collected {T} {o} {o′} room t p s i h =
       let small : i < length x / 4 = let e = shape-length x in omega arith in
       let g = s .blocks i small in
-      let own = shape-at x i blank small in
-      subst (Collected (slotAt (shapeOf x)) (slotAt (shapeOf y)) (total (shapeOf x)) (total (shapeOf y)) (total (take i (shapeOf x))) (getD (shapeOf x) i blank))
+      let own = shape-at x i noBlock small in
+      subst (Collected (slotAt (shapeOf x)) (slotAt (shapeOf y)) (total (shapeOf x)) (total (shapeOf y)) (total (take i (shapeOf x))) (getD (shapeOf x) i noBlock))
       (sym (narrowed-at x o o′ (l .whole-first .blocks) room s i small))
       (gathered-collected (place (shapeOf x) (shapeOf y) (l .whole-first .sound) i h) (told-shapes t) same-second
       (some-first (shapeOf x) (shapeOf y) (l .whole-first .sound) (l .whole-second .sound) p i h .1)

@@ -8,12 +8,11 @@ use native.Mathlib.Omega.{arith}
 use lib.ListN.{length, getD, set, take, drop, replicate, length-drop, length-append, take-append-drop, length-replicate, replicate-append-replicate}
 use lib.Seq.{ext-getD, getD-take, getD-drop, length-take-le, set-at, drop-cons}
 use Rattle.bases.proofs.Plain.{lt-or-le}
-use Rattle.shapes.specs.Shape.{Block, total}
+use Rattle.shapes.specs.Shape.{Block, total, noBlock}
 use Rattle.shapes.specs.Lent.{blockAt, shapeOf, wordsOf}
 use Rattle.shapes.proofs.All.{all-of}
 use Rattle.shapes.proofs.Lent.{shape-length, shape-at}
 use Rattle.shapes.proofs.Numbers.{words-shape}
-use Rattle.hulls.specs.Hull.{blank}
 use Rattle.rests.proofs.Tight.{total-take}
 use Rattle.layouts.specs.Slots.{Put}
 use Rattle.layouts.proofs.Slots.{blocks-same, put-others}
@@ -44,7 +43,7 @@ module _ {T : ℕ → ℕ → ℕ} {Y : ℕ → Block} {m : ℕ} {xs : List ℕ}
   pub side-to : {n l : ℕ} {o o′ : List ℕ} → n ≡ l → SideTo T Y m xs n o o′ → SideTo T Y m xs l o o′
   side-to {o = o} {o′ = o′} e s = subst (λ (x : ℕ). SideTo T Y m xs x o o′) e s
 
-take-total : (s : List Block) (i : ℕ) → i < length s → total (take (suc i) s) ≡ total (take i s) + getD s i blank .upper
+take-total : (s : List Block) (i : ℕ) → i < length s → total (take (suc i) s) ≡ total (take i s) + getD s i noBlock .upper
 unfolding total
 take-total [] i h = absurd (omega arith)
 take-total (b ∷ s) zero h = omega arith
@@ -53,7 +52,7 @@ take-total (b ∷ s) (suc i) h = let r = take-total s i (omega arith) in omega a
 -- the uppers before one more block
 pub total-more : (xs : List ℕ) (i : ℕ) → i < length xs / 4 → total (take (i + 1) (shapeOf xs)) ≡ total (take i (shapeOf xs)) + blockAt xs i .upper
 total-more xs i h = ap (λ (n : ℕ). total (take n (shapeOf xs))) (add-one i) ∙ take-total (shapeOf xs) i (let e = shape-length xs in omega arith)
-    ∙ ap (λ (b : Block). total (take i (shapeOf xs)) + b .upper) (shape-at xs i blank h)
+    ∙ ap (λ (b : Block). total (take i (shapeOf xs)) + b .upper) (shape-at xs i noBlock h)
 
 -- ---- the blocks of an output
 
@@ -67,8 +66,8 @@ module _ (xs o o′ : List ℕ) (whole : length xs % 4 ≡ 0) (room : length xs 
   pub narrowed-size : length narrowed ≡ length (shapeOf xs)
   narrowed-size = shape-length (take (length xs) o′) ∙ ap (λ (n : ℕ). n / 4) taken ∙ sym (shape-length xs)
 
-  pub narrowed-at : (i : ℕ) → i < length xs / 4 → getD narrowed i blank ≡ blockAt o′ i
-  narrowed-at i h = shape-at (take (length xs) o′) i blank (let e = taken in omega arith) ∙ blocks-same
+  pub narrowed-at : (i : ℕ) → i < length xs / 4 → getD narrowed i noBlock ≡ blockAt o′ i
+  narrowed-at i h = shape-at (take (length xs) o′) i noBlock (let e = taken in omega arith) ∙ blocks-same
       (getD-take (length xs) o′ (i * 4) 0 (omega arith)) (getD-take (length xs) o′ (i * 4 + 1) 0 (omega arith))
       (getD-take (length xs) o′ (i * 4 + 2) 0 (omega arith)) (getD-take (length xs) o′ (i * 4 + 3) 0 (omega arith))
 
@@ -113,7 +112,7 @@ unfolding cleared
 cleared-rest n w v e = ap (λ (l : List ℕ). replicate n 0 ++ l) e
 
 pub upper-within : (xs : List ℕ) (i : ℕ) → i < length xs / 4 → total (take i (shapeOf xs)) + blockAt xs i .upper ≤ total (shapeOf xs)
-upper-within xs i h = subst (λ (b : Block). total (take i (shapeOf xs)) + b .upper ≤ total (shapeOf xs)) (shape-at xs i blank h)
+upper-within xs i h = subst (λ (b : Block). total (take i (shapeOf xs)) + b .upper ≤ total (shapeOf xs)) (shape-at xs i noBlock h)
     (total-take (shapeOf xs) i (let e = shape-length xs in omega arith))
 
 pub total-zero : (s : List Block) → total (take 0 s) ≡ 0

@@ -4,7 +4,7 @@
 //     F k file    report length text rest e | refused number text place rest e
 //
 // A report of k bytes, k in hex, and the bytes of a file as hex pairs, `-` if it is empty. The report is shown with `/` for
-// each newline; e counts the untouched bytes at its end.
+// each newline; e counts the untouched bytes at its end, all of them where the file is refused.
 ghost use mathlib.Core.Path.{_≡_};
 ghost use lib.ListN.{length};
 use answers::Written;

@@ -10,37 +10,44 @@ use Rattle.shapes.specs.All.{All}
 use Rattle.shapes.specs.Shape.{Block, Sound}
 use Rattle.shapes.specs.Lent.{shapeOf, wordsOf}
 use Rattle.shapes.proofs.Numbers.{shape-words, words-shape}
-use Rattle.answers.specs.Told.{Told}
+use Rattle.answers.specs.Told.{told}
+use Rattle.answers.specs.declared.Ran.{Ran}
+use Rattle.answers.specs.declared.Ran.the-variants.{Stable as is-stable, None as is-none, Refused as is-refused}
+use Rattle.answers.specs.declared.Written.{Written}
+use Rattle.answers.specs.declared.Written.the-variants.{Text, Refused}
 use Rattle.hulls.specs.Hull.{Outcome, none, shapes}
 use Rattle.hulls.proofs.Hull.{hull-sound}
 use Rattle.books.specs.Refused.{BookRefused, BookAccepted}
-use Rattle.book_runs.specs.Walk.{Walk, BookRun, RunStable, RunNone}
+use Rattle.book_runs.specs.Walk.{Walk, BookRun, RunPromise}
 use Rattle.book_runs.specs.Walk.Walk.{stops, keeps, changes, round, rests}
-use Rattle.book_runs.proofs.Standing.{standing-first, few-blocks, blocks-sound}
+use Rattle.book_steps.proofs.Standing.{standing-first, few-blocks, blocks-sound}
 use Rattle.books.proofs.Refused.{book-one, book-not}
 use Rattle.book_runs.proofs.Walk.{walk-one}
 use Rattle.book_runs.proofs.Determined.{same-shapes, not-none}
 use Rattle.book_lines.specs.Book.{Book, RightBlock}
-use Rattle.sections.specs.Parts.{rulesOf}
 use Rattle.files.specs.declared.Sizes.{Sizes}
+use Rattle.files.specs.Departs.{FileAccepted}
 use Rattle.files.specs.Promise.{BookRead}
 use Rattle.files.proofs.Ready.{ready}
 use Rattle.files.proofs.Unique.{accepted-one, refused-one, not-both}
 use Rattle.reports.proofs.Ready.{right-of-sound}
 use Rattle.reports.specs.Report.{Verdict}
 use Rattle.reports.specs.Report.Verdict.{stable, none as in-none, refused}
-use Rattle.file_runs.specs.Ends.{triplesOf, BookEnds, FileEnds}
-use Rattle.file_runs.specs.Ends.BookEnds.{wrong, rests as ends-rest, fails}
-use Rattle.file_runs.specs.Ends.FileEnds.{no-book, of-book}
+use Rattle.rules.specs.Rule.{rulesOf, numbersOfAll}
+use Rattle.file_runs.specs.Ends.{BookEnds, FileEnds}
+use Rattle.file_runs.specs.Ends.BookEnds.{rests as ends-rest, fails}
+use Rattle.file_runs.specs.Ends.FileEnds.{no-book, wrong-book, of-book}
+use Rattle.file_runs.specs.Promise.{BookPromise, FilePromise}
+use Rattle.file_runs.specs.Promise.RunRefused.{of-book as refused-book}
 
 -- ---- the numbers of rules, and the rules of some numbers
 
-pub triples-rules : (xs : List ℕ) → length xs % 3 ≡ 0 → triplesOf (rulesOf xs) ≡ xs
-unfolding triplesOf rulesOf
-triples-rules [] e = refl
-triples-rules (a ∷ []) e = absurd (let h : _≡_ {A = ℕ} 1 0 = e in omega arith)
-triples-rules (a ∷ (b ∷ [])) e = absurd (let h : _≡_ {A = ℕ} 2 0 = e in omega arith)
-triples-rules (a ∷ (b ∷ (c ∷ xs))) e = ap (λ (l : List ℕ). a ∷ (b ∷ (c ∷ l))) (triples-rules xs (omega arith))
+pub numbers-rules : (xs : List ℕ) → length xs % 3 ≡ 0 → numbersOfAll (rulesOf xs) ≡ xs
+unfolding numbersOfAll rulesOf
+numbers-rules [] e = refl
+numbers-rules (a ∷ []) e = absurd (let h : _≡_ {A = ℕ} 1 0 = e in omega arith)
+numbers-rules (a ∷ (b ∷ [])) e = absurd (let h : _≡_ {A = ℕ} 2 0 = e in omega arith)
+numbers-rules (a ∷ (b ∷ (c ∷ xs))) e = ap (λ (l : List ℕ). a ∷ (b ∷ (c ∷ l))) (numbers-rules xs (omega arith))
 
 -- ---- a run keeps soundness
 
@@ -63,55 +70,75 @@ final-sound w a = sound-end w a
 -- ---- one end
 
 pub book-ends-one : {counts blocks rules : List ℕ} {v w : Verdict} → BookEnds counts blocks rules v → BookEnds counts blocks rules w → v ≡ w
-book-ends-one (wrong p) (wrong q) = ap refused (book-one p q)
-book-ends-one (wrong p) (ends-rest a q) = absurd (book-not p a)
-book-ends-one (wrong p) (fails a q) = absurd (book-not p a)
-book-ends-one (ends-rest a p) (wrong q) = absurd (book-not q a)
-book-ends-one {counts = counts} (ends-rest a p) (ends-rest b q) = let one = walk-one p q in ap₂ (stable counts) (same-shapes (one .0)) (one .1)
-book-ends-one (ends-rest a p) (fails b q) = absurd (not-none (sym (walk-one p q .0)))
-book-ends-one (fails a p) (wrong q) = absurd (book-not q a)
-book-ends-one (fails a p) (ends-rest b q) = absurd (not-none (walk-one p q .0))
-book-ends-one (fails a p) (fails b q) = ap in-none (walk-one p q .1)
+book-ends-one {counts = counts} (ends-rest p) (ends-rest q) = let one = walk-one p q in ap₂ (stable counts) (same-shapes (one .0)) (one .1)
+book-ends-one (ends-rest p) (fails q) = absurd (not-none (sym (walk-one p q .0)))
+book-ends-one (fails p) (ends-rest q) = absurd (not-none (walk-one p q .0))
+book-ends-one (fails p) (fails q) = ap in-none (walk-one p q .1)
+
+-- a file is the writing of one book, so what holds of the numbers of one holds of those of the other
+pub same-book : {file : List ℕ} {b c : Book} (P : List ℕ → List ℕ → List ℕ → Type 0) → FileAccepted file b → FileAccepted file c
+    → P (c .counts) (wordsOf (c .blocks)) (numbersOfAll (c .rules)) → P (b .counts) (wordsOf (b .blocks)) (numbersOfAll (b .rules))
+same-book {file = file} P a d p =
+    subst (λ (x : Book). P (x .counts) (wordsOf (x .blocks)) (numbersOfAll (x .rules))) (sym (accepted-one file _ _ a d)) p
 
 pub file-ends-one : {file : List ℕ} {v w : Verdict} → FileEnds file v → FileEnds file w → v ≡ w
 file-ends-one {file = file} (no-book p) (no-book q) = ap refused (refused-one file _ _ p q)
-file-ends-one {file = file} (no-book p) (of-book a q) = absurd (not-both file _ _ a p)
-file-ends-one {file = file} (of-book a p) (no-book q) = absurd (not-both file _ _ a q)
-file-ends-one {file = file} {w = w} (of-book a p) (of-book b q) =
-    book-ends-one p (subst (λ (x : Book). BookEnds (x .counts) (wordsOf (x .blocks)) (triplesOf (x .rules)) w) (sym (accepted-one file _ _ a b)) q)
+file-ends-one {file = file} (no-book p) (wrong-book a q) = absurd (not-both file _ _ a p)
+file-ends-one {file = file} (no-book p) (of-book a g q) = absurd (not-both file _ _ a p)
+file-ends-one {file = file} (wrong-book a p) (no-book q) = absurd (not-both file _ _ a q)
+file-ends-one (wrong-book a p) (wrong-book {t = t} d q) = ap refused (book-one p (same-book (λ c w r. BookRefused c w r 63001 t) a d q))
+file-ends-one (wrong-book a p) (of-book d h q) = absurd (book-not p (same-book (λ c w r. BookAccepted c w r 63001) a d h))
+file-ends-one {file = file} (of-book a g p) (no-book q) = absurd (not-both file _ _ a q)
+file-ends-one (of-book a g p) (wrong-book {t = t} d q) = absurd (book-not (same-book (λ c w r. BookRefused c w r 63001 t) a d q) g)
+file-ends-one {w = v} (of-book a g p) (of-book d h q) = book-ends-one p (same-book (λ c w r. BookEnds c w r v) a d q)
 
--- ---- what the run of a book's numbers comes to, with a work buffer of 63,001 bytes
+-- ---- what the run of a book's numbers comes to that has all the work space it wants; blocks′ are the blocks that it leaves
 
-module _ (counts blocks rules work blocks′ : List ℕ) (all : length work ≡ 63001) where
-  pub ends-refused : {t : Told} → BookRefused counts blocks rules (length work) t → BookEnds counts blocks rules (refused t)
-  ends-refused {t = t} p = wrong (subst (λ (k : ℕ). BookRefused counts blocks rules k t) all p)
+-- the final shapes can be written, if their numbers fit
+abbrev Writable : List ℕ → Type 0
+Writable blocks′ = All (λ (x : ℕ). x < 2 ^ 64) blocks′ → All RightBlock (shapeOf blocks′)
 
-  pub ends-none : {m : ℕ} → RunNone counts blocks rules work blocks′ m → BookEnds counts blocks rules (in-none m)
-  ends-none p = fails (subst (BookAccepted counts blocks rules) all (p .accepted)) (p .run)
+abbrev pub ComesTo : List ℕ → List ℕ → List ℕ → List ℕ → Ran → Type 0
+ComesTo counts blocks rules blocks′ (is-refused r) = BookRefused counts blocks rules 63001 (told r)
+ComesTo counts blocks rules blocks′ (is-none m) = BookAccepted counts blocks rules 63001 × BookEnds counts blocks rules (in-none m)
+ComesTo counts blocks rules blocks′ (is-stable m) =
+    BookAccepted counts blocks rules 63001 × BookEnds counts blocks rules (stable counts (shapeOf blocks′) m) × Writable blocks′
 
-  pub ends-stable : {m : ℕ} → RunStable counts blocks rules work blocks′ m → BookEnds counts blocks rules (stable counts (shapeOf blocks′) m)
-  ends-stable {m = m} p =
-      let same : shapeOf blocks′ ≡ p .final = ap shapeOf (p .left) ∙ shape-words (p .final) in
-      ends-rest (subst (BookAccepted counts blocks rules) all (p .accepted)) (subst (λ (S : List Block). BookRun counts blocks rules (shapes S) m) (sym same) (p .run))
+module _ (counts blocks rules work blocks′ work′ : List ℕ) (all : length work ≡ 63001) where
+  enough : BookAccepted counts blocks rules (length work) → BookAccepted counts blocks rules 63001
+  enough a = subst (BookAccepted counts blocks rules) all a
 
--- the final shapes can be written
-pub final-right : (counts blocks rules work blocks′ : List ℕ) {m : ℕ} → All (λ (x : ℕ). x < 2 ^ 64) blocks′ → RunStable counts blocks rules work blocks′ m → All RightBlock (shapeOf blocks′)
-final-right counts blocks rules work blocks′ small p =
-    let same : shapeOf blocks′ ≡ p .final = ap shapeOf (p .left) ∙ shape-words (p .final) in
-    right-of-sound blocks′ small (subst (All Sound) (sym same) (final-sound (p .run) (blocks-sound (standing-first (p .accepted)))))
+  pub comes-to : (r : Ran) → RunPromise counts blocks rules work blocks′ work′ r → ComesTo counts blocks rules blocks′ r
+  comes-to (is-refused r) p = subst (λ (k : ℕ). BookRefused counts blocks rules k (told r)) all (p .0)
+  comes-to (is-none m) p = let a = enough (p .0 .accepted) in (a, fails (p .0 .run))
+  comes-to (is-stable m) p =
+      let a = enough (p .0 .accepted) in
+      let same : p .0 .final ≡ shapeOf blocks′ = sym (ap shapeOf (p .0 .left) ∙ shape-words (p .0 .final)) in
+      let sound = final-sound (p .0 .run) (blocks-sound (standing-first (p .0 .accepted))) in
+      let run = subst (λ (S : List Block). BookRun counts blocks rules (shapes S) m) same (p .0 .run) in
+      (a, ends-rest run, λ small. right-of-sound blocks′ small (subst (All Sound) same sound))
 
 -- an accepted book has at most 256 blocks
 pub few-numbers : (counts blocks rules : List ℕ) (work : ℕ) → BookAccepted counts blocks rules work → length blocks / 4 ≤ 256
 few-numbers counts blocks rules work a = let e = a .counted .whole-blocks in let h = few-blocks counts (a .counted .each) (a .counted .few-texts) in omega arith
 
--- ---- what the run of the numbers that a file was read into comes to
+-- ---- what the run of the numbers that a file was read into promises of the file
 
-pub file-of : (file cs bs rs cs′ bs′ rs′ : List ℕ) (z : Sizes) {v : Verdict} → BookRead file cs bs rs cs′ bs′ rs′ z → All (λ (x : ℕ). x < 2 ^ 64) (take (z .blocks * 4) bs′)
-    → BookEnds (take (z .texts) cs′) (take (z .blocks * 4) bs′) (take (z .rules * 3) rs′) v → FileEnds file v
-file-of file cs bs rs cs′ bs′ rs′ z {v = v} r small e =
-    let room = ready file cs bs rs cs′ bs′ rs′ z r in
+of-accepted : (file out out′ : List ℕ) (b : Book) (r : Written) → FileAccepted file b
+    → BookPromise (b .counts) (wordsOf (b .blocks)) (numbersOfAll (b .rules)) out out′ r → FilePromise file out out′ r
+of-accepted file out out′ b (Text n) a p = record { book = b; accepted = a; written = p }
+of-accepted file out out′ b (Refused s) a p = (refused-book a (p .0), p .1)
+
+pub file-of : (file cs bs rs cs′ bs′ rs′ out out′ : List ℕ) (z : Sizes) (r : Written) → BookRead file cs bs rs cs′ bs′ rs′ z
+    → All (λ (x : ℕ). x < 2 ^ 64) (take (z .blocks * 4) bs′)
+    → BookPromise (take (z .texts) cs′) (take (z .blocks * 4) bs′) (take (z .rules * 3) rs′) out out′ r → FilePromise file out out′ r
+file-of file cs bs rs cs′ bs′ rs′ out out′ z r read small p =
+    let room = ready file cs bs rs cs′ bs′ rs′ z read in
     let nb = length-take-le (z .blocks * 4) bs′ (room .blocks) in
     let nr = length-take-le (z .rules * 3) rs′ (room .rules) in
-    let words : wordsOf (shapeOf (take (z .blocks * 4) bs′)) ≡ take (z .blocks * 4) bs′ = words-shape (take (z .blocks * 4) bs′) (omega arith) small in
-    let triples : triplesOf (rulesOf (take (z .rules * 3) rs′)) ≡ take (z .rules * 3) rs′ = triples-rules (take (z .rules * 3) rs′) (omega arith) in
-    of-book (r .accepted) (subst₂ (λ (b t : List ℕ). BookEnds (take (z .texts) cs′) b t v) (sym words) (sym triples) e)
+    let b = take (z .blocks * 4) bs′ in
+    let t = take (z .rules * 3) rs′ in
+    let words : wordsOf (shapeOf b) ≡ b = words-shape b (omega arith) small in
+    let numbers : numbersOfAll (rulesOf t) ≡ t = numbers-rules t (omega arith) in
+    of-accepted file out out′ _ r (read .accepted)
+    (subst₂ (λ (x y : List ℕ). BookPromise (take (z .texts) cs′) x y out out′ r) (sym words) (sym numbers) p)

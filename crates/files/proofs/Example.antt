@@ -15,7 +15,7 @@ exampleBook =
     record {
       counts = 1 ∷ 1 ∷ [];
       blocks = block 0x0000000e000000000000000000000000 0 3 ∷ block 0x0000001c000000000000000000000000 2 2 ∷ [];
-      rules = record { kind = 0; first = 1; second = 2 } ∷ [];
+      rules = record { kind = 0; a = 1; b = 2 } ∷ [];
     }
 
 pub exampleFile : List ℕ

@@ -5,7 +5,7 @@ use Prim.Native.Nat.{ℕ, _*_, _/_, _≤_}
 use native.Mathlib.Omega.{arith}
 use lib.ListN.{length, take, length-take}
 use Rattle.shapes.proofs.Lent.{shape-length}
-use Rattle.sections.specs.Parts.{rulesOf}
+use Rattle.rules.specs.Rule.{rulesOf}
 use Rattle.files.specs.declared.Sizes.{Sizes}
 use Rattle.files.specs.Promise.{BookRead}
 

@@ -14,7 +14,8 @@ use Rattle.shapes.proofs.All.{all-append, all-left}
 use Rattle.shapes.specs.Shape.{Block}
 use Rattle.numerals.specs.Digits.{digits, decimal}
 use Rattle.numerals.proofs.Digits.{digits-length, digits-one, decimal-one}
-use Rattle.book_lines.specs.Book.{Book, InGrammar, Rule, Small, RightBlock, RightRule, textsWord, blocksWord, rulesWord, headLine, twoNumbers, blockLine, ruleLine, linesOf, joined, writing}
+use Rattle.rules.specs.declared.Rule.{Rule}
+use Rattle.book_lines.specs.Book.{Book, InGrammar, Small, RightBlock, RightRule, textsWord, blocksWord, rulesWord, headLine, twoNumbers, blockLine, ruleLine, linesOf, joined, writing}
 use Rattle.book_lines.specs.Lines.{Without}
 use Rattle.book_lines.proofs.Split.{head-one, tail-one, parted}
 use Rattle.book_lines.proofs.Read.{without-decimal}
@@ -127,10 +128,10 @@ two-one a b c d e =
 rule-one : (r s : Rule) → RightRule r → RightRule s → ruleLine r ≡ ruleLine s → r ≡ s
 unfolding ruleLine
 rule-one r s h g e =
-    let p = parted 32 (decimal (r .kind)) (decimal (s .kind)) (twoNumbers (r .first) (r .second)) (twoNumbers (s .first) (s .second)) (without-decimal 32 (r .kind) (omega arith)) (without-decimal 32 (s .kind) (omega arith)) e in
+    let p = parted 32 (decimal (r .kind)) (decimal (s .kind)) (twoNumbers (r .a) (r .b)) (twoNumbers (s .a) (s .b)) (without-decimal 32 (r .kind) (omega arith)) (without-decimal 32 (s .kind) (omega arith)) e in
     let k = decimal-one (r .kind) (s .kind) (p .0) in
-    let t = two-one (r .first) (r .second) (s .first) (s .second) (p .1) in
-    λ i. record { kind = k i; first = t .0 i; second = t .1 i }
+    let t = two-one (r .a) (r .b) (s .a) (s .b) (p .1) in
+    λ i. record { kind = k i; a = t .0 i; b = t .1 i }
 
 block-one : (b c : Block) → RightBlock b → RightBlock c → blockLine b ≡ blockLine c → b ≡ c
 unfolding blockLine

@@ -6,7 +6,8 @@ use native.Mathlib.Omega.{arith}
 use lib.ListN.{length, drop, length-drop, drop-of-length-le}
 use Rattle.shapes.specs.Shape.{Block}
 use Rattle.numerals.specs.Digits.{decimal}
-use Rattle.book_lines.specs.Book.{Rule, Small, RightBlock, RightRule, textsWord, blocksWord, rulesWord, headLine, blockLine, ruleLine, linesOf, joined, writing}
+use Rattle.rules.specs.declared.Rule.{Rule}
+use Rattle.book_lines.specs.Book.{Small, RightBlock, RightRule, textsWord, blocksWord, rulesWord, headLine, blockLine, ruleLine, linesOf, joined, writing}
 use Rattle.book_lines.proofs.Joined.{joined-append}
 use Rattle.sections.specs.Steps.{DepartsFrom}
 use Rattle.sections.specs.Steps.State.{counts, blocks, rules}

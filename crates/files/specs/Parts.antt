@@ -8,7 +8,7 @@ use Rattle.shapes.specs.Lent.{shapeOf}
 use Rattle.book_lines.specs.Book.{RightBlock, RightRule, blocksWord, rulesWord, headLine, blockLine, ruleLine, joined}
 use Rattle.sections.specs.Steps.{State, DepartsFrom}
 use Rattle.sections.specs.Steps.State.{counts, blocks}
-use Rattle.sections.specs.Parts.{rulesOf}
+use Rattle.rules.specs.Rule.{rulesOf}
 use Rattle.files.specs.declared.Section.{Section}
 use Rattle.files.specs.declared.Section.the-variants.{Read as section-read, Departs as section-departs}
 use Rattle.files.specs.declared.Last.{Last}

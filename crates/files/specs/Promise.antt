@@ -10,7 +10,7 @@ use Rattle.files.specs.declared.Sizes.{Sizes}
 use Rattle.files.specs.declared.Read.{Read}
 use Rattle.files.specs.declared.Read.the-variants.{Book as is-book, Refused}
 use Rattle.files.specs.Departs.{FileAccepted, FileRefused}
-use Rattle.sections.specs.Parts.{rulesOf}
+use Rattle.rules.specs.Rule.{rulesOf}
 
 -- The book that some numbers are: counts as they stand, blocks as four numbers each, rules as three.
 abbrev pub bookOf : List ℕ → List ℕ → List ℕ → Book

@@ -9,7 +9,7 @@ ghost use Rattle.shapes.specs.Lent.{shapeOf};
 ghost use Rattle.numerals.specs.Digits.{decimal};
 ghost use Rattle.book_lines.specs.Book.{textsWord, blocksWord, rulesWord, Small, RightBlock, RightRule, blockLine, ruleLine};
 ghost use Rattle.sections.specs.Steps.State.{start, counts as toCounts, blocks as toBlocks};
-ghost use Rattle.sections.specs.Parts.{rulesOf};
+ghost use Rattle.rules.specs.Rule.{rulesOf};
 ghost use Rattle.files.specs.Parts.{SectionRead, LastRead, TailRead};
 ghost use Rattle.files.specs.Promise.{ReadPromise};
 

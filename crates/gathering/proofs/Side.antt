@@ -83,9 +83,6 @@ module _ {T : ℕ → ℕ → ℕ} {Y : ℕ → Block} where
 pub tells-map : {r : Bool} {P Q : Type 0} → (P → Q) → (Q → P) → Tells r P → Tells r Q
 tells-map f g t = record { so = λ e. f (t .so e); not-so = λ e q. t .not-so e (g q) }
 
-pub tells-true : {P : Type 0} → P → Tells true P
-tells-true p = record { so = λ e. p; not-so = λ e. absurd (true≢false e) }
-
 -- a bool is not both
 pub not-both : {r : Bool} {A : Type 0} → r ≡ true → r ≡ false → A
 not-both p q = absurd (true≢false (sym p ∙ q))

@@ -6,19 +6,19 @@ use Prim.Native.Nat.{ℕ, zero, suc, _<_}
 use native.Mathlib.Omega.{arith}
 use lib.ListN.{length, getD, take, drop}
 use lib.Seq.{take-at, drop-at}
-use Rattle.shapes.specs.Shape.{Block, Run, Filling, done, fill, textOf}
-use Rattle.hulls.specs.Hull.{Pairs, Satisfies, blank}
+use Rattle.shapes.specs.Shape.{Block, Run, Filling, done, fill, textOf, noBlock}
+use Rattle.hulls.specs.Hull.{Pairs, Satisfies}
 
 pub filling-size : {S : List Block} {f : List (List ℕ)} → Filling S f → length f ≡ length S
 filling-size done = refl
 filling-size (fill r f) = ap suc (filling-size f)
 
-pub filling-at : {S : List Block} {f : List (List ℕ)} → Filling S f → (i : ℕ) → i < length S → Run (getD S i blank) (getD f i [])
+pub filling-at : {S : List Block} {f : List (List ℕ)} → Filling S f → (i : ℕ) → i < length S → Run (getD S i noBlock) (getD f i [])
 filling-at done i h = absurd (omega arith)
 filling-at (fill r f) zero h = r
 filling-at (fill r f) (suc i) h = filling-at f i (omega arith)
 
-pub filling-of : (S : List Block) (f : List (List ℕ)) → length f ≡ length S → ((i : ℕ) → i < length S → Run (getD S i blank) (getD f i [])) → Filling S f
+pub filling-of : (S : List Block) (f : List (List ℕ)) → length f ≡ length S → ((i : ℕ) → i < length S → Run (getD S i noBlock) (getD f i [])) → Filling S f
 filling-of [] [] e h = done
 filling-of [] (r ∷ f) e h = absurd (omega arith)
 filling-of (b ∷ S) [] e h = absurd (omega arith)

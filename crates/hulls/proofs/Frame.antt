@@ -1,148 +1,133 @@
--- Texts that a rule does not name stay as they are, and it does not matter in which order the named ones lie. Assumes nothing.
-use mathlib.Core.Path.{_≡_, refl, sym, ap, _∙_, subst}
-use mathlib.Core.List.{List, [], _∷_, _++_, append-assoc, append-nil}
+-- The frame: a rule that looks only at some blocks, picked by their places in the order in which it reads them, has over all blocks the hull of the picked
+-- ones laid back over the rest. Both ways, for every rule. Assumes nothing.
+use mathlib.Core.Path.{_≡_, sym, ap, _∙_, subst}
+use mathlib.Core.List.{List, [], _∷_}
 use mathlib.Core.Logic.{⊎-elim}
-use Prim.Native.Nat.{ℕ, zero, suc, _+_, _-_, _≤_, _<_}
+use Prim.Native.Nat.{ℕ, _<_}
 use native.Mathlib.Omega.{arith}
-use lib.ListN.{length, getD, take, drop, length-append, length-drop}
-use lib.Seq.{drop-nil, drop-drop, drop-append-le, drop-at}
-use Rattle.bases.proofs.Plain.{lt-or-le}
+use lib.ListN.{length, getD, set, length-set}
+use lib.Seq.{ext-getD, getD-set-same, getD-set-other}
+use Rattle.bases.proofs.Plain.{eq-or-ne}
 use Rattle.shapes.specs.All.{All, more}
-use Rattle.shapes.specs.Shape.{Block, Sound, Run, Filling, fill, done}
-use Rattle.hulls.specs.Hull.{Satisfies, Taken, Tight, blank, Hull}
-use Rattle.hulls.proofs.Fill.{filling-size, filling-at, join, split-first, split-second}
+use Rattle.shapes.specs.Shape.{Block, Sound, Run, Filling, fill, done, noBlock}
+use Rattle.shapes.proofs.All.{all-at}
+use Rattle.hulls.specs.Hull.{Satisfies, None, Taken, Tight, Hull}
+use Rattle.hulls.proofs.Fill.{filling-size, filling-at, filling-of}
 use Rattle.hulls.proofs.Tight.{tight-same, some-run, tight-run}
-use Rattle.hulls.proofs.Hull.{same-part}
-use Rattle.hulls.proofs.Turn.{turn, turn-parts, turn-size, turn-back, turn-low, turn-high}
+use Rattle.hulls.proofs.Places.{Distinct, On, Off, on-or-off, picked, over, picked-length, picked-at, over-length, over-at, over-off}
 
--- ---- sound blocks in front
+-- sound blocks have a filling
+pub some-filling : {S : List Block} → All Sound S → (f : List (List ℕ)) × Filling S f
+some-filling All.none = ([], done)
+some-filling (more s a) = let r = some-run s in let f = some-filling a in (r .0 ∷ f .0, fill (r .1) (f .1))
 
-tail-at : (i : ℕ) (f : List (List ℕ)) → getD (drop 1 f) i [] ≡ getD f (suc i) []
-tail-at i [] = refl
-tail-at i (r ∷ f) = refl
+-- in a filling one run may be changed for another of the same block
+pub set-filling : {S : List Block} {f : List (List ℕ)} (i : ℕ) (r : List ℕ) → Run (getD S i noBlock) r → Filling S f → Filling S (set f i r)
+set-filling {S} {f} i r b x =
+    let size = filling-size x in
+    filling-of S (set f i r) (length-set f i r ∙ size)
+    (λ j l. ⊎-elim
+    (λ e. let there : getD (set f i r) j [] ≡ r = ap (λ (k : ℕ). getD (set f i r) k []) e ∙ getD-set-same f i r [] (omega arith) in
+    rw there (subst (λ (k : ℕ). Run (getD S k noBlock) r) (sym e) b))
+    (λ e. rw (getD-set-other f i j r [] e) (filling-at x j l))
+    (eq-or-ne j i))
 
-module _ {Q : List (List ℕ) → Type 0} {a : Block} {B : List Block} where
-  cons-satisfies : {r : List ℕ} {f : List (List ℕ)} → Run a r → Satisfies Q B f → Satisfies (λ f. Q (drop 1 f)) (a ∷ B) (r ∷ f)
-  cons-satisfies r s = record { filling = fill r (s .filling); rule = s .rule }
+module _ (Q : List (List ℕ) → Type 0) (S : List Block) (p : List ℕ) (distinct : Distinct p) (within : All (λ (i : ℕ). i < length S) p) where
+  -- the rule over all blocks, and the blocks that it looks at
+  abbrev pub Framed : List (List ℕ) → Type 0
+  Framed f = Q (picked [] p f)
 
-  pub before-one : {H : List Block} → Sound a → Hull Q B H → Hull (λ f. Q (drop 1 f)) (a ∷ B) (a ∷ H)
-  before-one {H} s h = record {
-    size = ap suc (h .size);
-    some = record { runs = any .0 ∷ h .some .runs; satisfies = cons-satisfies (any .1) (h .some .satisfies) };
-    tight = tight;
+  abbrev pub seen : List Block
+  seen = picked noBlock p S
+
+  -- ---- choices
+
+  place : (k : ℕ) → k < length p → getD p k 0 < length S
+  place k h = all-at 0 within k h
+
+  pub project : {f : List (List ℕ)} → Filling S f → Filling seen (picked [] p f)
+  project {f} x = filling-of seen (picked [] p f) (picked-length [] p f ∙ sym (picked-length noBlock p S))
+      (λ k l. let h : k < length p = rw (← picked-length noBlock p S) l in
+      rw (picked-at noBlock p S k h, picked-at [] p f k h) (filling-at x (getD p k 0) (place k h)))
+
+  all-places : {f : List (List ℕ)} → Filling S f → All (λ (i : ℕ). i < length f) p
+  all-places x = rw (filling-size x) within
+
+  laid-at : {f g : List (List ℕ)} → Filling S f → Filling seen g → (k : ℕ) → k < length p → getD (over [] p g f) (getD p k 0) [] ≡ getD g k []
+  laid-at {f} {g} x y k h = over-at [] p g f k distinct (all-places x) (filling-size y ∙ picked-length noBlock p S) h
+
+  pub extend : {f g : List (List ℕ)} → Filling S f → Filling seen g → Filling S (over [] p g f)
+  extend {f} {g} x y = filling-of S (over [] p g f) (over-length [] p g f ∙ filling-size x)
+      (λ i l. ⊎-elim
+      (λ o. let h = o .within in
+      let run : Run (getD S (getD p (o .at) 0) noBlock) (getD g (o .at) []) = rw (← picked-at noBlock p S (o .at) h) (filling-at y (o .at) (rw (picked-length noBlock p S) h)) in
+      subst (λ (j : ℕ). Run (getD S j noBlock) (getD (over [] p g f) j [])) (o .is) (rw (laid-at x y (o .at) h) run))
+      (λ o. rw (over-off [] p g f i o) (filling-at x i l))
+      (on-or-off p i))
+
+  pub extend-back : {f g : List (List ℕ)} → Filling S f → Filling seen g → picked [] p (over [] p g f) ≡ g
+  extend-back {f} {g} x y =
+      let size : length (picked [] p (over [] p g f)) ≡ length p = picked-length [] p (over [] p g f) in
+      ext-getD [] (picked [] p (over [] p g f)) g (size ∙ sym (filling-size y ∙ picked-length noBlock p S))
+      (λ k l. let h : k < length p = rw (← size) l in picked-at [] p (over [] p g f) k h ∙ laid-at x y k h)
+
+  satisfied : {f g : List (List ℕ)} → Filling S f → Satisfies Q seen g → Satisfies Framed S (over [] p g f)
+  satisfied x s = record { filling = extend x (s .filling); rule = subst Q (sym (extend-back x (s .filling))) (s .rule) }
+
+  projected : {f : List (List ℕ)} → Satisfies Framed S f → Satisfies Q seen (picked [] p f)
+  projected s = record { filling = project (s .filling); rule = s .rule }
+
+  -- ---- none
+
+  pub frame-none : None Q seen → None Framed S
+  frame-none n = record { never = λ f s. n .never _ (projected s) }
+
+  pub frame-none-back : All Sound S → None Framed S → None Q seen
+  frame-none-back a n = record { never = λ g s. n .never _ (satisfied (some-filling a .1) s) }
+
+  -- ---- the runs that a block takes
+
+  taken-at : {f : List (List ℕ)} → Filling S f → (k : ℕ) → k < length p → (r : List ℕ) → Taken Q seen k r → Taken Framed S (getD p k 0) r
+  taken-at x k h r t = record { runs = _; satisfies = satisfied x (t .satisfies); run = laid-at x (t .satisfies .filling) k h ∙ t .run }
+
+  taken-back : (k : ℕ) → k < length p → (r : List ℕ) → Taken Framed S (getD p k 0) r → Taken Q seen k r
+  taken-back k h r t = record { runs = _; satisfies = projected (t .satisfies); run = picked-at [] p (t .runs) k h ∙ t .run }
+
+  -- a block that the rule does not look at takes all its runs
+  taken-off : {f g : List (List ℕ)} → Filling S f → Satisfies Q seen g → (i : ℕ) → i < length S → Off p i → (r : List ℕ) → Run (getD S i noBlock) r → Taken Framed S i r
+  taken-off {f} {g} x s i l o r b = record {
+    runs = over [] p g (set f i r);
+    satisfies = satisfied (set-filling i r b x) s;
+    run = over-off [] p g (set f i r) i o ∙ getD-set-same f i r [] (let e = filling-size x in omega arith);
+  }
+
+  -- ---- hulls
+
+  pub frame : {H : List Block} → All Sound S → Hull Q seen H → Hull Framed S (over noBlock p H S)
+  frame {H} a h = record {
+    size = over-length noBlock p H S;
+    some = record { runs = _; satisfies = satisfied any (h .some .satisfies) };
+    tight = λ i l. ⊎-elim (on i) (off i l) (on-or-off p i);
   }
     where
-      any : (r : List ℕ) × Run a r × (length r ≡ a .lower)
-      any = some-run s
+      any : Filling S (some-filling a .0)
+      any = some-filling a .1
 
-      tight : (i : ℕ) → i < suc (length B) → Tight (Taken (λ f. Q (drop 1 f)) (a ∷ B) i) (getD (a ∷ H) i blank)
-      tight zero l = tight-same
-          (λ r x. record { runs = r ∷ h .some .runs; satisfies = cons-satisfies x (h .some .satisfies); run = refl })
-          (λ r t. rw (t .run) at (filling-at (t .satisfies .filling) 0 l))
-          (tight-run s)
-      tight (suc i) l = tight-same
-          (λ r t. record { runs = any .0 ∷ t .runs; satisfies = cons-satisfies (any .1) (t .satisfies); run = t .run })
-          (λ r t. record {
-            runs = drop 1 (t .runs);
-            satisfies = record { filling = split-second (a ∷ []) B (t .satisfies .filling); rule = t .satisfies .rule };
-            run = tail-at i (t .runs) ∙ t .run;
-          })
-          (h .tight i (omega arith))
+      on : (i : ℕ) → On p i → Tight (Taken Framed S i) (getD (over noBlock p H S) i noBlock)
+      on i o =
+          let k = o .within in
+          subst (λ (j : ℕ). Tight (Taken Framed S j) (getD (over noBlock p H S) j noBlock)) (o .is)
+          (rw (over-at noBlock p H S (o .at) distinct within (h .size ∙ picked-length noBlock p S) k)
+          (tight-same (taken-at any (o .at) k) (taken-back (o .at) k) (h .tight (o .at) (rw (picked-length noBlock p S) k))))
 
-drop-one : (n : ℕ) (f : List (List ℕ)) → drop n (drop 1 f) ≡ drop (suc n) f
-drop-one n [] = drop-nil n
-drop-one n (r ∷ f) = refl
+      off : (i : ℕ) → i < length S → Off p i → Tight (Taken Framed S i) (getD (over noBlock p H S) i noBlock)
+      off i l o = rw (over-off noBlock p H S i o) (tight-same (taken-off any (h .some .satisfies) i l o) (λ r t. rw (t .run) at (filling-at (t .satisfies .filling) i l)) (tight-run (all-at noBlock a i l)))
 
-pub before : {Q : List (List ℕ) → Type 0} {A B H : List Block} → All Sound A → Hull Q B H → Hull (λ f. Q (drop (length A) f)) (A ++ B) (A ++ H)
-before All.none h = h
-before {Q} (more {l = A} s a) h = same-part Q (λ f x. drop-one (length A) f) (before-one s (before a h))
-
--- ---- the blocks turned, the first put last
-
-turn-satisfies : {Q : List (List ℕ) → Type 0} (X Y : List Block) {f : List (List ℕ)} → Satisfies (λ f. Q (turn (length X) f)) (X ++ Y) f → Satisfies Q (Y ++ X) (turn (length X) f)
-turn-satisfies X Y s = record { filling = join (split-second X Y (s .filling)) (split-first X Y (s .filling)); rule = s .rule }
-
-filling-length : (X Y : List Block) {f : List (List ℕ)} → Filling (X ++ Y) f → length f ≡ length X + length Y
-filling-length X Y f = filling-size f ∙ length-append X Y
-
-turned-satisfies : {Q : List (List ℕ) → Type 0} (X Y : List Block) {f : List (List ℕ)}
-    → Satisfies Q (Y ++ X) f → Satisfies (λ f. Q (turn (length X) f)) (X ++ Y) (turn (length Y) f)
-turned-satisfies {Q} X Y {f} s = record {
-  filling = join (split-second Y X (s .filling)) (split-first Y X (s .filling));
-  rule = subst Q (sym (turn-back (length Y) (length X) f (filling-length Y X (s .filling)))) (s .rule);
-}
-
-pub swap : {Q : List (List ℕ) → Type 0} (X Y : List Block) {J : List Block} → Hull Q (Y ++ X) J → Hull (λ f. Q (turn (length X) f)) (X ++ Y) (turn (length Y) J)
-swap {Q} X Y {J} h = record {
-  size = turn-size (length Y) (length X) J length-J ∙ sym (length-append X Y);
-  some = record { runs = _; satisfies = turned-satisfies X Y (h .some .satisfies) };
-  tight = λ i l. ⊎-elim (low i) (λ g. high i g (rw length-append at l)) (lt-or-le i (length X));
-}
-  where
-    length-J : length J ≡ length Y + length X
-    length-J = h .size ∙ length-append Y X
-
-    -- block i comes from block j
-    moved : (i j : ℕ) → j < length (Y ++ X) → getD (turn (length Y) J) i blank ≡ getD J j blank
-        → ((f : List (List ℕ)) → length f ≡ length Y + length X → getD (turn (length Y) f) i [] ≡ getD f j [])
-        → Tight (Taken (λ f. Q (turn (length X) f)) (X ++ Y) i) (getD (turn (length Y) J) i blank)
-    moved i j l e at = rw e (tight-same
-        (λ r t. record { runs = _; satisfies = turned-satisfies X Y (t .satisfies); run = at _ (filling-length Y X (t .satisfies .filling)) ∙ t .run })
-        (λ r t. let s = turn-satisfies {Q = Q} X Y (t .satisfies) in record {
-          runs = _;
-          satisfies = s;
-          run = sym (at _ (filling-length Y X (s .filling)))
-              ∙ ap (λ (f : List (List ℕ)). getD f i []) (turn-back (length X) (length Y) (t .runs) (filling-length X Y (t .satisfies .filling))) ∙ t .run;
-        })
-        (h .tight j l))
-
-    low : (i : ℕ) → i < length X → Tight (Taken (λ f. Q (turn (length X) f)) (X ++ Y) i) (getD (turn (length Y) J) i blank)
-    low i l = moved i (length Y + i) (rw length-append (omega arith))
-        (turn-low (length Y) (length X) J length-J i blank l)
-        (λ f e. turn-low (length Y) (length X) f e i [] l)
-
-    high : (i : ℕ) → length X ≤ i → i < length X + length Y → Tight (Taken (λ f. Q (turn (length X) f)) (X ++ Y) i) (getD (turn (length Y) J) i blank)
-    high i g l =
-        let at : length X + (i - length X) ≡ i = omega arith in
-        let small : i - length X < length Y = omega arith in
-        moved i (i - length X) (rw length-append (omega arith))
-        (ap (λ (k : ℕ). getD (turn (length Y) J) k blank) (sym at) ∙ turn-high (length Y) (length X) J length-J (i - length X) blank small)
-        (λ f e. ap (λ (k : ℕ). getD (turn (length Y) f) k []) (sym at) ∙ turn-high (length Y) (length X) f e (i - length X) [] small)
-
--- ---- sound blocks between, and after
-
-pub between : {Q : List (List ℕ) → Type 0} (X Y X′ Y′ : List Block) {C : List Block} → All Sound C → length X′ ≡ length X → Hull Q (X ++ Y) (X′ ++ Y′)
-    → Hull (λ f. Q (take (length X) f ++ drop (length X + length C) f)) (X ++ (C ++ Y)) (X′ ++ (C ++ Y′))
-between {Q} X Y X′ Y′ {C} c e h =
-    let sizes : length X′ + length Y′ ≡ length X + length Y = sym (length-append X′ Y′) ∙ h .size ∙ length-append X Y in
-    let size : length Y′ ≡ length Y = omega arith in
-    let first : Hull (λ f. Q (turn (length Y) f)) (Y ++ X) (Y′ ++ X′) = rw (turn-parts X′ Y′ (length X) e) at (swap Y X h) in
-    let front : Hull (λ f. Q (turn (length Y) (drop (length C) f))) (C ++ Y ++ X) (C ++ Y′ ++ X′) = rw (append-assoc C Y X, append-assoc C Y′ X′) (before c first) in
-    let last : Hull (λ f. Q (turn (length Y) (drop (length C) (turn (length X) f)))) (X ++ (C ++ Y)) (X′ ++ (C ++ Y′))
-    = rw (turn-parts (C ++ Y′) X′ (length (C ++ Y)) (simp length-append (rw size refl))) at (swap X (C ++ Y) front) in
-    same-part Q same last
-  where
-    same : (f : List (List ℕ)) → Filling (X ++ (C ++ Y)) f → turn (length Y) (drop (length C) (turn (length X) f)) ≡ take (length X) f ++ drop (length X + length C) f
-    same f x =
-        let size : length f ≡ length X + (length C + length Y) = rw length-append at (filling-length X (C ++ Y) x) in
-        let rest : length (drop (length X) f) ≡ length C + length Y = length-drop (length X) f ∙ omega arith in
-        let fits : length C ≤ length (drop (length X) f) = omega arith in
-        let end : length (drop (length X + length C) f) ≡ length Y = length-drop (length X + length C) f ∙ omega arith in
-        ap (turn (length Y)) (drop-append-le (length C) (drop (length X) f) (take (length X) f) fits ∙ ap (λ (l : List (List ℕ)). l ++ take (length X) f) (drop-drop (length C) (length X) f))
-        ∙ turn-parts (drop (length X + length C) f) (take (length X) f) (length Y) end
-
-pub after : {Q : List (List ℕ) → Type 0} {B H C : List Block} → All Sound C → Hull Q B H → Hull (λ f. Q (take (length B) f)) (B ++ C) (H ++ C)
-after {Q} {B} {H} {C} c h =
-    same-part Q same (rw (turn-parts C H (length C) refl) at (swap B C (before c h)))
-  where
-    same : (f : List (List ℕ)) → Filling (B ++ C) f → drop (length C) (turn (length B) f) ≡ take (length B) f
-    same f x = drop-at (drop (length B) f) (take (length B) f) (length C) (filling-size (split-second B C x))
-
--- ---- a rule that names one text
-
--- for sound blocks the rule that is always true changes nothing
-pub everything : {S : List Block} → All Sound S → Hull (λ _. Unit {0}) S S
-everything {S} s = rw append-nil at (before s nothing)
-  where
-    nothing : Hull (λ _. Unit {0}) [] []
-    nothing = record { size = refl; some = record { runs = []; satisfies = record { filling = done; rule = tt } }; tight = λ i l. absurd (omega arith) }
+  pub frame-back : {J : List Block} → All Sound S → Hull Framed S J → Hull Q seen (picked noBlock p J)
+  frame-back {J} a h = record {
+    size = picked-length noBlock p J ∙ sym (picked-length noBlock p S);
+    some = record { runs = _; satisfies = projected (h .some .satisfies) };
+    tight = λ k l. let u : k < length p = rw (← picked-length noBlock p S) l in
+        rw (picked-at noBlock p J k u)
+        (tight-same (taken-back k u) (taken-at (some-filling a .1) k u) (h .tight (getD p k 0) (place k u)));
+  }

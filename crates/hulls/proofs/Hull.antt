@@ -6,8 +6,8 @@ use native.Mathlib.Omega.{arith}
 use lib.ListN.{length, getD}
 use lib.Seq.{ext-getD}
 use Rattle.shapes.specs.All.{All, more}
-use Rattle.shapes.specs.Shape.{Block, Sound, Run, Filling}
-use Rattle.hulls.specs.Hull.{Satisfies, None, Taken, blank, Hull, Outcome, none, shapes, Narrows, to-none, to-shapes}
+use Rattle.shapes.specs.Shape.{Block, Sound, Run, Filling, noBlock}
+use Rattle.hulls.specs.Hull.{Satisfies, None, Taken, Hull, Outcome, none, shapes, Narrows, to-none, to-shapes}
 use Rattle.hulls.specs.Book.{Within, end, next}
 use Rattle.hulls.proofs.Order.{within-of, within-size, within-filling}
 use Rattle.hulls.proofs.Fill.{filling-size, filling-at, filling-of}
@@ -17,7 +17,7 @@ use Rattle.hulls.proofs.Tight.{tight-same, tight-least, tight-mono, tig
 
 pub one-hull : {P : List (List ℕ) → Type 0} {S H J : List Block} → Hull P S H → Hull P S J → H ≡ J
 one-hull {P} {S} {H} {J} h j =
-    ext-getD blank H J (h .size ∙ sym (j .size)) (λ i l. let l : i < length S = rw (← h .size) l in tight-one (h .tight i l) (j .tight i l))
+    ext-getD noBlock H J (h .size ∙ sym (j .size)) (λ i l. let l : i < length S = rw (← h .size) l in tight-one (h .tight i l) (j .tight i l))
 
 pub hull-or-none : {P : List (List ℕ) → Type 0} {S H : List Block} → Hull P S H → None P S → ⊥
 hull-or-none h n = n .never _ (h .some .satisfies)
@@ -30,7 +30,7 @@ one-outcome (to-shapes h) (to-shapes j) = ap shapes (one-hull h j)
 
 -- ---- no more room, and no choice lost
 
-taken-run : {P : List (List ℕ) → Type 0} {S : List Block} {i : ℕ} {r : List ℕ} → i < length S → Taken P S i r → Run (getD S i blank) r
+taken-run : {P : List (List ℕ) → Type 0} {S : List Block} {i : ℕ} {r : List ℕ} → i < length S → Taken P S i r → Run (getD S i noBlock) r
 taken-run l t = rw (t .run) at (filling-at (t .satisfies .filling) _ l)
 
 pub hull-within : {P : List (List ℕ) → Type 0} {S H : List Block} → Hull P S H → Within H S
@@ -53,13 +53,13 @@ all-of : {A : Type 0} {P : A → Type 0} (d : A) (l : List A) → ((i : ℕ) →
 all-of d [] h = All.none
 all-of d (a ∷ l) h = more (h 0 (omega arith)) (all-of d l (λ i b. h (suc i) (omega arith)))
 
-within-small : {H S : List Block} → Within H S → All Sound S → (i : ℕ) → i < length H → getD H i blank .upper ≤ 250
+within-small : {H S : List Block} → Within H S → All Sound S → (i : ℕ) → i < length H → getD H i noBlock .upper ≤ 250
 within-small end s i l = absurd (omega arith)
 within-small (next p w) (more s r) zero l = omega arith
 within-small (next p w) (more s r) (suc i) l = within-small w r i (omega arith)
 
 pub hull-sound : {P : List (List ℕ) → Type 0} {S H : List Block} → Hull P S H → All Sound S → All Sound H
-hull-sound h s = all-of blank _ (λ i l. tight-sound (h .tight i (rw (← h .size) l)) (within-small (hull-within h) s i l))
+hull-sound h s = all-of noBlock _ (λ i l. tight-sound (h .tight i (rw (← h .size) l)) (within-small (hull-within h) s i l))
 
 -- ---- what depends only on the choices that satisfy the rule
 

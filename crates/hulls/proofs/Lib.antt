@@ -1,10 +1,10 @@
 -- The laws of narrowing and of runs.
 pub mod Order
+pub mod Small
 pub mod Fill
 pub mod Tight
 pub mod Hull
-pub mod Turn
+pub mod Places
 pub mod Frame
-pub mod Named
 pub mod Runs
 pub mod Sides

@@ -6,8 +6,7 @@ use native.Mathlib.Omega.{arith}
 use lib.ListN.{length, getD}
 use Rattle.bases.proofs.Sets.{same-base}
 use Rattle.shapes.specs.All.{All, more}
-use Rattle.shapes.specs.Shape.{Block, Run, Filling, done, fill, total}
-use Rattle.hulls.specs.Hull.{blank}
+use Rattle.shapes.specs.Shape.{Block, Run, Filling, done, fill, total, noBlock}
 use Rattle.hulls.specs.Book.{Inside, Within, end, next}
 
 -- ---- one block
@@ -62,7 +61,7 @@ within-filling (next p w) (fill r f) = fill (inside-run p r) (within-filling w f
 
 -- ---- by block number
 
-pub within-of : (H S : List Block) → length H ≡ length S → ((i : ℕ) → i < length S → Inside (getD H i blank) (getD S i blank)) → Within H S
+pub within-of : (H S : List Block) → length H ≡ length S → ((i : ℕ) → i < length S → Inside (getD H i noBlock) (getD S i noBlock)) → Within H S
 within-of [] [] e f = end
 within-of [] (b ∷ S) e f = absurd (omega arith)
 within-of (h ∷ H) [] e f = absurd (omega arith)

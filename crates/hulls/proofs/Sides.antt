@@ -7,8 +7,8 @@ use native.Mathlib.Omega.{arith}
 use lib.ListN.{length, getD, take, drop, length-append, take-append-drop, List·getD-append}
 use lib.Seq.{getD-append-add, getD-take, getD-drop}
 use Rattle.bases.proofs.Plain.{lt-or-le}
-use Rattle.shapes.specs.Shape.{Block, Filling}
-use Rattle.hulls.specs.Hull.{Satisfies, Some, Taken, Tight, blank, Hull}
+use Rattle.shapes.specs.Shape.{Block, Filling, noBlock}
+use Rattle.hulls.specs.Hull.{Satisfies, Some, Taken, Tight, Hull}
 use Rattle.hulls.proofs.Fill.{filling-size, join, split-first, split-second}
 use Rattle.hulls.proofs.Tight.{tight-same}
 
@@ -63,20 +63,20 @@ module _ {X Y : List Block} {P Q S : List (List ℕ) → Type 0}
           let g = of-first (s .runs) (s .satisfies) in
           record { runs = s .runs ++ g .0; satisfies = record { filling = join (s .satisfies .filling) (g .1); rule = g .2 } }
 
-      first : (i : ℕ) → i < length X → Tight (Taken P (X ++ Y) i) (getD (X′ ++ Y′) i blank)
+      first : (i : ℕ) → i < length X → Tight (Taken P (X ++ Y) i) (getD (X′ ++ Y′) i noBlock)
       first i l =
           let within : i < length X′ = let c = h .size in omega arith in
-          subst (Tight (Taken P (X ++ Y) i)) (sym (List·getD-append X′ Y′ blank i within)) (tight-same (left i l) (left-back i l) (h .tight i l))
+          subst (Tight (Taken P (X ++ Y) i)) (sym (List·getD-append X′ Y′ noBlock i within)) (tight-same (left i l) (left-back i l) (h .tight i l))
 
-      second : (i : ℕ) → i < length Y → Tight (Taken P (X ++ Y) (length X + i)) (getD (X′ ++ Y′) (length X + i) blank)
+      second : (i : ℕ) → i < length Y → Tight (Taken P (X ++ Y) (length X + i)) (getD (X′ ++ Y′) (length X + i) noBlock)
       second i l =
-          let at : getD (X′ ++ Y′) (length X + i) blank ≡ getD Y′ i blank
-          = ap (λ (n : ℕ). getD (X′ ++ Y′) (n + i) blank) (sym (h .size)) ∙ getD-append-add X′ Y′ i blank in
+          let at : getD (X′ ++ Y′) (length X + i) noBlock ≡ getD Y′ i noBlock
+          = ap (λ (n : ℕ). getD (X′ ++ Y′) (n + i) noBlock) (sym (h .size)) ∙ getD-append-add X′ Y′ i noBlock in
           subst (Tight (Taken P (X ++ Y) (length X + i))) (sym at) (tight-same (right i) (right-back i) (k .tight i l))
 
-      tight : (i : ℕ) → i < length (X ++ Y) → Tight (Taken P (X ++ Y) i) (getD (X′ ++ Y′) i blank)
+      tight : (i : ℕ) → i < length (X ++ Y) → Tight (Taken P (X ++ Y) i) (getD (X′ ++ Y′) i noBlock)
       tight i l = ⊎-elim (first i)
           (λ u. let there : length X + (i - length X) ≡ i = omega arith in
           let b = length-append X Y in
-          subst (λ (n : ℕ). Tight (Taken P (X ++ Y) n) (getD (X′ ++ Y′) n blank)) there (second (i - length X) (omega arith)))
+          subst (λ (n : ℕ). Tight (Taken P (X ++ Y) n) (getD (X′ ++ Y′) n noBlock)) there (second (i - length X) (omega arith)))
           (lt-or-le i (length X))

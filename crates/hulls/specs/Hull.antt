@@ -6,7 +6,7 @@ use mathlib.Core.List.{List, [], List·Memᴰ}
 use Prim.Native.Nat.{ℕ, _<_}
 use lib.ListN.{length, getD, take, drop}
 use Rattle.bases.specs.Base.{Holds}
-use Rattle.shapes.specs.Shape.{Block, Run, Filling, textOf}
+use Rattle.shapes.specs.Shape.{Block, noBlock, Run, Filling, textOf}
 
 -- The relation R of two texts as a rule: the first text's shape has n blocks.
 abbrev pub Pairs : (List ℕ → List ℕ → Type 0) → ℕ → List (List ℕ) → Type 0
@@ -44,15 +44,11 @@ pub record Tight (R : List ℕ → Type 0) (b : Block) : Type 0 where
   pub shortest : (r : List ℕ) × R r × (length r ≡ b .lower)
   pub longest : (r : List ℕ) × R r × (length r ≡ b .upper)
 
--- Looked at only past the end of a list.
-abbrev pub blank : Block
-blank = record { base = 0; lower = 0; upper = 0 }
-
 -- Some choice satisfies the rule, and H are the new blocks, as many as S: block i of H is the block of the runs that block i of S takes in such choices.
 pub record Hull (P : List (List ℕ) → Type 0) (S H : List Block) : Type 0 where
   pub size : length H ≡ length S
   pub some : Some P S
-  pub tight : (i : ℕ) → i < length S → Tight (Taken P S i) (getD H i blank)
+  pub tight : (i : ℕ) → i < length S → Tight (Taken P S i) (getD H i noBlock)
 
 -- What narrowing answers: none if no choice satisfies the rule, else the new blocks.
 pub data Outcome : Type 0 where

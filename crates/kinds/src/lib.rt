@@ -1,13 +1,14 @@
-// Narrowing under the relation of a kind: 0 equal, 1 at most, any other before.
+// Narrowing under the relation of a rule's kind: 0 equal, 1 at most, 2 before.
 use answers::Checked;
 use answers::Narrowed;
+ghost use Prim.Native.Nat.{_≤_};
 ghost use lib.ListN.{length};
-ghost use Rattle.texts.specs.Kind.{relationOf};
+ghost use Rattle.texts.specs.Kind.{relationOf, lastKind};
 ghost use Rattle.pairs.specs.Pair.{PairAccepted, Room};
 ghost use Rattle.pairs.specs.Narrow.{NarrowAnswer, NarrowPromise};
 
 // The work, of two accepted shapes with enough room.
-fn narrow_accepted(
+pub fn narrow_accepted(
     kind: u64,
     x: &[u64],
     y: &[u64],
@@ -15,6 +16,7 @@ fn narrow_accepted(
     out_x: &mut [u64],
     out_y: &mut [u64],
 ) -> bool
+    requires { ⌜ kind ≤ lastKind ⌝ }
     requires { ⌜ PairAccepted (now x) (now y) ⌝ }
     requires { ⌜ Room (now x) (now y) (length (now work)) (length (now «out_x»)) (length (now «out_y»)) ⌝ }
     ensures { λ r. ⌜ NarrowAnswer (relationOf kind) (now (x .entry)) (now (y .entry)) (now (work .entry)) (now («out_x» .entry)) (now («out_y» .entry))
@@ -35,6 +37,7 @@ pub fn narrow(
     out_x: &mut [u64],
     out_y: &mut [u64],
 ) -> Narrowed
+    requires { ⌜ kind ≤ lastKind ⌝ }
     ensures { λ r. ⌜ NarrowPromise (relationOf kind) (now (x .entry)) (now (y .entry)) (now (work .entry)) (now («out_x» .entry)) (now («out_y» .entry))
         (now (work .exit)) (now («out_x» .exit)) (now («out_y» .exit)) r ⌝ }
 {

@@ -1,7 +1,11 @@
 // Reads a book's file from the standard input and writes the report of its run to the standard output.
 //
 // Where a read fails nothing is reported, and where a write fails the report may be cut: both are said on the standard error.
-ghost use Rattle.narrow.specs.Within.{Within};
+ghost use Prim.Native.Nat.{_≤_};
+ghost use lib.ListN.{length};
+ghost use Rattle.file_runs.specs.Ends.{FileEnds};
+ghost use Rattle.file_runs.specs.Promise.{Report};
+ghost use Rattle.narrow.specs.Within.{Within, ReadMore};
 use answers::Written;
 
 // What the input gave: its bytes, up to what there is room for, or a read that failed.
@@ -19,21 +23,32 @@ fn main() {
     }
 }
 
-// Reads until the input ends or the buffer is full.
+// Reads on until a read gives no more bytes or the buffer is full.
 fn read_input(buffer: &mut [u8]) -> Input
     ensures { λ r. ⌜ Within (now (buffer .exit)) r ⌝ }
 {
     let mut done = 0;
     while done < buffer.len() {
-        let Input::Bytes(more) = read_some(&mut buffer[done..]) else {
+        let Input::Bytes(n) = read_more(buffer, done) else {
             return Input::Failed;
         };
-        if more == 0 {
-            return Input::Bytes(done);
+        if n == done {
+            return Input::Bytes(n);
         }
-        done += more;
+        done = n;
     }
     Input::Bytes(done)
+}
+
+// One read more, behind the bytes that were read so far, which stay.
+fn read_more(buffer: &mut [u8], done: usize) -> Input
+    requires { ⌜ done ≤ length (now buffer) ⌝ }
+    ensures { λ r. ⌜ ReadMore (now (buffer .entry)) done (now (buffer .exit)) r ⌝ }
+{
+    let Input::Bytes(more) = read_some(&mut buffer[done..]) else {
+        return Input::Failed;
+    };
+    Input::Bytes(done + more)
 }
 
 // One read. It gives no bytes at the end of the input.
@@ -47,12 +62,20 @@ fn read_some(buffer: &mut [u8]) -> Input
     Input::Bytes(io::count(got, buffer))
 }
 
-// Writes the report of a file. It has the room that every report wants, so the call does not refuse.
 fn answer(file: &[u8]) {
     let mut report = [0u8; 16384];
-    match dashed::run_file(file, &mut report) {
-        Written::Text(n) => write_report(&report[..n]),
-        Written::Refused(_) => complain(b"narrow: no report\n"),
+    let n = report_of(file, &mut report);
+    write_report(&report[..n]);
+}
+
+// The report of how a file ends, at the start of an output that has room for every report: its book's, or why it is refused.
+fn report_of(file: &[u8], report: &mut [u8]) -> usize
+    requires { ⌜ 16384 ≤ length (now report) ⌝ }
+    ensures { λ r. ⌜ Report (FileEnds (now (file .entry))) (now (report .entry)) (now (report .exit)) r ⌝ }
+{
+    match dashed::run_file(file, report) {
+        Written::Text(n) => n,
+        Written::Refused(r) => reports::write_refused(r, report),
     }
 }
 

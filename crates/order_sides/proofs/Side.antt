@@ -9,9 +9,9 @@ use lib.ListN.{length, getD, take}
 use Rattle.bases.specs.Base.{Holds}
 use Rattle.bases.proofs.Plain.{lt-or-le}
 use Rattle.shapes.specs.All.{All, more}
-use Rattle.shapes.specs.Shape.{Block, Sound, Run, Filling, textOf, total}
+use Rattle.shapes.specs.Shape.{Block, Sound, Run, Filling, textOf, total, noBlock}
 use Rattle.shapes.proofs.All.{all-head, all-at}
-use Rattle.hulls.specs.Hull.{Satisfies, None, Some, Taken, Tight, blank, Hull}
+use Rattle.hulls.specs.Hull.{Satisfies, None, Some, Taken, Tight, Hull}
 use Rattle.hulls.proofs.Tight.{tight-same, run-of-length}
 use Rattle.rests.specs.Walk.{slotAt, Walk, Bounded}
 use Rattle.rests.proofs.Walks.{walk-from, walk-to}
@@ -67,10 +67,10 @@ module _ {X : ℕ → Block} (S : List Block) (slots : Slots X 0 S) (bounded : B
     full : (i : ℕ) → i < total S → (c : ℕ) × Holds (X i .base) c
     full i h = slots-full slots g i (omega arith) (omega arith)
 
-    pub spot : (i : ℕ) → i < length S → Spot X (total S) (total (take i S)) (getD S i blank)
+    pub spot : (i : ℕ) → i < length S → Spot X (total S) (total (take i S)) (getD S i noBlock)
     spot i l = record {
       has = start-at (total (take i S)) (has-at slots i l);
-      ordered = all-at blank g i l .ordered;
+      ordered = all-at noBlock g i l .ordered;
       edge = λ y h. let w = in-slots (slots-take i slots) y (omega arith) (omega arith) .within in omega arith;
       fits = total-take S i l;
       bounded = bounded;
@@ -85,12 +85,12 @@ module _ {X : ℕ → Block} (S : List Block) (slots : Slots X 0 S) (bounded : B
           record { runs = x .runs; satisfies = record { filling = x .filling; rule = subst (Keeps G 0) (sym (x .joined)) (t .2) } }
 
       module _ (i : ℕ) (l : i < length S) where
-        taken-run : (r : List ℕ) → RunIn X G (total S) (total (take i S)) (getD S i blank) r → Taken (Kept G) S i r
+        taken-run : (r : List ℕ) → RunIn X G (total S) (total (take i S)) (getD S i noBlock) r → Taken (Kept G) S i r
         taken-run r h =
             let x = rejoin bounded i (h .front) r (h .back) slots g (omega arith) l (omega arith) (h .before) (h .run) (h .after) in
             record { runs = x .runs; satisfies = record { filling = x .filling; rule = subst (Keeps G 0) (sym (x .joined)) (h .keeps) }; run = x .run }
 
-        run-taken : (r : List ℕ) → Taken (Kept G) S i r → RunIn X G (total S) (total (take i S)) (getD S i blank) r
+        run-taken : (r : List ℕ) → Taken (Kept G) S i r → RunIn X G (total S) (total (take i S)) (getD S i noBlock) r
         run-taken r k =
             let s = k .satisfies in
             let a = around slots (s .filling) i l in
@@ -99,21 +99,21 @@ module _ {X : ℕ → Block} (S : List Block) (slots : Slots X 0 S) (bounded : B
               front = a .front;
               back = a .back;
               before = walk-to (zero-first (total (take i S))) (a .before);
-              run = subst (Run (getD S i blank)) (k .run) (a .run);
-              after = walk-to (zero-first (total S)) (walk-from (let z : total (take i S) + getD S i blank .upper ≡ 0 + total (take i S) + getD S i blank .upper = omega arith in z) (a .after));
+              run = subst (Run (getD S i noBlock)) (k .run) (a .run);
+              after = walk-to (zero-first (total S)) (walk-from (let z : total (take i S) + getD S i noBlock .upper ≡ 0 + total (take i S) + getD S i noBlock .upper = omega arith in z) (a .after));
               keeps = subst (Keeps G 0) (a .text ∙ ap (λ (q : List ℕ). a .front ++ (q ++ a .back)) (k .run)) (s .rule);
             }
 
-        pub side-tight : {h : Block} → Collected X G (total S) (total (take i S)) (getD S i blank) h → Tight (Taken (Kept G) S i) h
+        pub side-tight : {h : Block} → Collected X G (total S) (total (take i S)) (getD S i noBlock) h → Tight (Taken (Kept G) S i) h
         side-tight k = tight-same taken-run run-taken (collected-tight (spot i l) k)
 
         -- where some text is on the right side, each block has some run
-        pub side-ends : Clear X G (total S) 0 0 → (n : ℕ) × Ends X G (total S) (total (take i S)) (getD S i blank) n
+        pub side-ends : Clear X G (total S) 0 0 → (n : ℕ) × Ends X G (total S) (total (take i S)) (getD S i noBlock) n
         side-ends k =
             let s = side-some k in
             let r = getD (s .runs) i [] in
             (length r, ends-of (spot i l) r (run-taken r (record { runs = s .runs; satisfies = s .satisfies; run = refl })))
 
       pub side-hull : (S′ : List Block) → length S′ ≡ length S → Clear X G (total S) 0 0
-          → ((i : ℕ) → i < length S → Collected X G (total S) (total (take i S)) (getD S i blank) (getD S′ i blank)) → Hull (Kept G) S S′
+          → ((i : ℕ) → i < length S → Collected X G (total S) (total (take i S)) (getD S i noBlock) (getD S′ i noBlock)) → Hull (Kept G) S S′
       side-hull S′ e k f = record { size = e; some = side-some k; tight = λ i l. side-tight i l (f i l) }

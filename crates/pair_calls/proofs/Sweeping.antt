@@ -40,15 +40,18 @@ module _ (xs ys out : List ℕ) where
   promised out′ (Cannot k) a h e o = done out′ (Cannot k) a h e o
   promised out′ (Refused r) a h e o = absurd (not-refused (sweepOf (shapeOf xs) (shapeOf ys)) e)
 
-  one-refusal : {t u : Told} → SweepRefused xs ys (length out) t → SweepRefused xs ys (length out) u → t ≡ u
+  pub one-refusal : {t u : Told} → SweepRefused xs ys (length out) t → SweepRefused xs ys (length out) u → t ≡ u
   one-refusal (shapes p) (shapes q) = pair-one p q
   one-refusal (shapes p) (output a h e) = absurd (pair-not p a)
   one-refusal (output a h e) (shapes q) = absurd (pair-not q a)
   one-refusal (output a h e) (output a′ h′ e′) = e ∙ sym e′
 
+  pub not-due : {t : Told} → SweepRefused xs ys (length out) t → PairAccepted xs ys → 2 * length (shapeOf xs) ≤ length out → ⊥
+  not-due (shapes p) a h = pair-not p a
+  not-due (output _ g e) a h = omega arith
+
   refused-not : {t : Told} {out′ : List ℕ} {r : Swept} → SweepRefused xs ys (length out) t → SweepDone xs ys out out′ r → ⊥
-  refused-not (shapes p) d = pair-not p (d .accepted)
-  refused-not (output a h e) d = let g = d .room in omega arith
+  refused-not p d = not-due p (d .accepted) (d .room)
 
   both-done : {out′ out″ : List ℕ} {r s : Swept} → SweepDone xs ys out out′ r → SweepDone xs ys out out″ s → (r ≡ s) × (out′ ≡ out″)
   both-done p q = (p .answer ∙ sym (q .answer), p .output ∙ sym (q .output))

@@ -16,6 +16,9 @@ use Rattle.pairs.specs.Pair.{PairAccepted, Room, NarrowRefused}
 unfoldable pub cleared : ℕ → List ℕ → List ℕ
 cleared n work = replicate n 0 ++ drop n work
 
+abbrev pub Cleared : List ℕ → List ℕ → Type 0
+Cleared work work′ = work′ ≡ cleared 63001 work
+
 -- The new shapes are the hull of the pairs of fillings that satisfy R; they stand at the start of the outputs, the entries past them stay.
 pub record Narrows (R : List ℕ → List ℕ → Type 0) (xs ys ox oy ox′ oy′ : List ℕ) : Type 0 where
   pub first : List Block
@@ -35,12 +38,12 @@ pub record NoPair (R : List ℕ → List ℕ → Type 0) (xs ys ox oy ox′ oy�
 pub record NarrowAnswer (R : List ℕ → List ℕ → Type 0) (xs ys work ox oy work′ ox′ oy′ : List ℕ) (r : Bool) : Type 0 where
   pub both : r ≡ true → Narrows R xs ys ox oy ox′ oy′
   pub neither : r ≡ false → NoPair R xs ys ox oy ox′ oy′
-  pub work-cleared : work′ ≡ cleared 63001 work
+  pub work-cleared : Cleared work work′
 
 pub record Accepts (xs ys work ox oy work′ : List ℕ) : Type 0 where
   pub shapes : PairAccepted xs ys
   pub room : Room xs ys (length work) (length ox) (length oy)
-  pub work-cleared : work′ ≡ cleared 63001 work
+  pub work-cleared : Cleared work work′
 
 pub record Refuses (xs ys work ox oy work′ ox′ oy′ : List ℕ) : Type 0 where
   pub work-kept : work′ ≡ work

@@ -9,8 +9,8 @@ use lib.Dec.{eqb}
 use lib.ListN.{length, getD, take}
 use Rattle.bases.specs.Tells.{Tells}
 use Rattle.shapes.specs.All.{All}
-use Rattle.shapes.specs.Shape.{Block, Sound, total}
-use Rattle.hulls.specs.Hull.{Pairs, Narrows, to-none, to-shapes, blank}
+use Rattle.shapes.specs.Shape.{Block, Sound, total, noBlock}
+use Rattle.hulls.specs.Hull.{Pairs, Narrows, to-none, to-shapes}
 use Rattle.rests.specs.Walk.{slotAt, Path, Bounded, Same}
 use Rattle.rests.specs.Collect.{Collected}
 use Rattle.rests.proofs.Walks.{turn-path}
@@ -83,9 +83,9 @@ told-table {X} {Y} {U} {W} x y = told-marks
 
 module _ (X Y : List Block) (gx : All Sound X) (gy : All Sound Y) {T : ℕ → ℕ → ℕ} (t : Told (slotAt X) (slotAt Y) (total X) (total Y) T) where
   side : (p : Path (slotAt X) (slotAt Y) (total X) (total Y) 0 0) (i : ℕ) → i < length X
-      → Collected (slotAt X) (slotAt Y) (total X) (total Y) (total (take i X)) (getD X i blank) (getD (blocksOf T (slotAt Y) (total Y) 0 X) i blank)
+      → Collected (slotAt X) (slotAt Y) (total X) (total Y) (total (take i X)) (getD X i noBlock) (getD (blocksOf T (slotAt Y) (total Y) 0 X) i noBlock)
   side p i h = gathered-collected (place X Y gx i h) t (λ j l. refl) (some-first X Y gx gy p i h .1)
-      (subst (λ (z : ℕ). Gathered T (slotAt Y) (total Y) z (getD X i blank) (getD (blocksOf T (slotAt Y) (total Y) 0 X) i blank))
+      (subst (λ (z : ℕ). Gathered T (slotAt Y) (total Y) z (getD X i noBlock) (getD (blocksOf T (slotAt Y) (total Y) 0 X) i noBlock))
       (let e : 0 + total (take i X) ≡ total (take i X) = omega arith in e) (blocks-say T (slotAt Y) (total Y) 0 X i h))
 
 module _ (X Y : List Block) (gx : All Sound X) (gy : All Sound Y) where

@@ -7,8 +7,7 @@ use native.Mathlib.Omega.{arith}
 use lib.ListN.{length, getD, take}
 use Rattle.bases.specs.Base.{Meets}
 use Rattle.bases.specs.Tells.{Tells}
-use Rattle.shapes.specs.Shape.{Block, total}
-use Rattle.hulls.specs.Hull.{blank}
+use Rattle.shapes.specs.Shape.{Block, total, noBlock}
 use Rattle.gathering.specs.Side.{Joint, Others, Within, Added}
 use Rattle.lengths.specs.Length.{EmptyRun, LastAt, Length, empty, filled, Shortest, Longest, Gathered}
 use Rattle.gathering.proofs.Side.{others-none, others-more, others-to, within-none, within-more, within-to}
@@ -90,9 +89,9 @@ module _ (T : ℕ → ℕ → ℕ) (Y : ℕ → Block) where
   blocks-size m p [] = refl
   blocks-size m p (b ∷ s) = ap suc (blocks-size m (p + b .upper) s)
 
-  pub blocks-say : (m p : ℕ) (s : List Block) (i : ℕ) → i < length s → Gathered T Y m (p + total (take i s)) (getD s i blank) (getD (blocksOf T Y m p s) i blank)
+  pub blocks-say : (m p : ℕ) (s : List Block) (i : ℕ) → i < length s → Gathered T Y m (p + total (take i s)) (getD s i noBlock) (getD (blocksOf T Y m p s) i noBlock)
   unfolding blocksOf total
   blocks-say m p [] i h = absurd (omega arith)
   blocks-say m p (b ∷ s) zero h = subst (λ (z : ℕ). Gathered T Y m z b (blockOf T Y m p b)) (let e : p ≡ p + 0 = omega arith in e) (block-says m p b)
-  blocks-say m p (b ∷ s) (suc i) h = subst (λ (z : ℕ). Gathered T Y m z (getD s i blank) (getD (blocksOf T Y m (p + b .upper) s) i blank))
+  blocks-say m p (b ∷ s) (suc i) h = subst (λ (z : ℕ). Gathered T Y m z (getD s i noBlock) (getD (blocksOf T Y m (p + b .upper) s) i noBlock))
       (let e : p + b .upper + total (take i s) ≡ p + (b .upper + total (take i s)) = omega arith in e) (blocks-say m (p + b .upper) s i (omega arith))

@@ -9,9 +9,9 @@ use lib.ListN.{length, getD, take, length-append, List·getD-append}
 use lib.Seq.{getD-take, getD-drop, getD-append-add}
 use Rattle.bases.proofs.Plain.{lt-or-le}
 use Rattle.shapes.specs.All.{All, more}
-use Rattle.shapes.specs.Shape.{Block, Sound, Run, Filling, done, fill, Fits, textOf, total}
+use Rattle.shapes.specs.Shape.{Block, Sound, Run, Filling, done, fill, Fits, textOf, total, noBlock}
 use Rattle.shapes.proofs.All.{all-at}
-use Rattle.hulls.specs.Hull.{Pairs, Satisfies, None, Some, Taken, Tight, blank, Hull}
+use Rattle.hulls.specs.Hull.{Pairs, Satisfies, None, Some, Taken, Tight, Hull}
 use Rattle.hulls.proofs.Fill.{filling-size, split-first, split-second, pair-satisfies}
 use Rattle.hulls.proofs.Tight.{tight-same}
 use Rattle.rests.specs.Walk.{slotAt, Walk, here, Path, Bounded, Same}
@@ -27,8 +27,8 @@ pub record Around (X : ℕ → Block) (p : ℕ) (s : List Block) (f : List (List
   pub front : List ℕ
   pub back : List ℕ
   pub before : Walk X (p + total (take i s)) p front
-  pub run : Run (getD s i blank) (getD f i [])
-  pub after : Walk X (p + total s) (p + total (take i s) + getD s i blank .upper) back
+  pub run : Run (getD s i noBlock) (getD f i [])
+  pub after : Walk X (p + total s) (p + total (take i s) + getD s i noBlock .upper) back
   pub text : textOf f ≡ front ++ (getD f i [] ++ back)
 
 -- and put together again
@@ -102,13 +102,13 @@ module _ {X : ℕ → Block} where
         before = walk-from (let e : p ≡ p + 0 = omega arith in e)
             (run-walk h 0 r (a .front) (run .held) (omega arith) (omega arith) (walk-to (let e : p + b .upper + total (take i s) ≡ p + (b .upper + total (take i s)) = omega arith in e) (a .before)));
         run = a .run;
-        after = walk-from (let e : p + (b .upper + total (take i s)) + getD s i blank .upper ≡ p + b .upper + total (take i s) + getD s i blank .upper = omega arith in e)
+        after = walk-from (let e : p + (b .upper + total (take i s)) + getD s i noBlock .upper ≡ p + b .upper + total (take i s) + getD s i noBlock .upper = omega arith in e)
             (walk-to (let e : p + b .upper + total s ≡ p + (b .upper + total s) = omega arith in e) (a .after));
         text = ap (λ (l : List ℕ). r ++ l) (a .text) ∙ sym (append-assoc r (a .front) (getD f i [] ++ a .back));
       }
 
   pub rejoin : {U : ℕ} → Bounded X U → {p st : ℕ} {s : List Block} (i : ℕ) (front r back : List ℕ) → Slots X p s → All Sound s → U ≡ p + total s → i < length s → st ≡ p + total (take i s)
-      → Walk X st p front → Run (getD s i blank) r → Walk X U (st + getD s i blank .upper) back → Rejoined s i r (front ++ (r ++ back))
+      → Walk X st p front → Run (getD s i noBlock) r → Walk X U (st + getD s i noBlock .upper) back → Rejoined s i r (front ++ (r ++ back))
   unfolding total
   rejoin bd i front r back none g e l d w run v = absurd (omega arith)
   rejoin {U} bd {p} {st} zero front r back (next {b = b} {s = s} h k) (more o g) e l d w run v =
@@ -122,7 +122,7 @@ module _ {X : ℕ → Block} where
 
 -- ---- the place of block i
 
-pub total-take : (s : List Block) (i : ℕ) → i < length s → total (take i s) + getD s i blank .upper ≤ total s
+pub total-take : (s : List Block) (i : ℕ) → i < length s → total (take i s) + getD s i noBlock .upper ≤ total s
 unfolding total
 total-take [] i h = absurd (omega arith)
 total-take (b ∷ s) zero h = omega arith
@@ -134,20 +134,20 @@ slots-take zero (next h k) = none
 slots-take (suc i) none = none
 slots-take (suc i) (next h k) = next h (slots-take i k)
 
-pub has-at : {X : ℕ → Block} {p : ℕ} {s : List Block} → Slots X p s → (i : ℕ) → i < length s → Has X (p + total (take i s)) (getD s i blank)
+pub has-at : {X : ℕ → Block} {p : ℕ} {s : List Block} → Slots X p s → (i : ℕ) → i < length s → Has X (p + total (take i s)) (getD s i noBlock)
 unfolding total
 has-at none i h = absurd (omega arith)
 has-at {X} {p} (next {b = b} k r) zero h = subst (λ (x : ℕ). Has X x b) (let e : p ≡ p + 0 = omega arith in e) k
 has-at {X} {p} (next {b = b} {s = s} k r) (suc i) h =
-    subst (λ (x : ℕ). Has X x (getD s i blank)) (let e : p + b .upper + total (take i s) ≡ p + (b .upper + total (take i s)) = omega arith in e) (has-at r i (omega arith))
+    subst (λ (x : ℕ). Has X x (getD s i noBlock)) (let e : p + b .upper + total (take i s) ≡ p + (b .upper + total (take i s)) = omega arith in e) (has-at r i (omega arith))
 
 pub start-at : {X : ℕ → Block} {b : Block} (n : ℕ) → Has X (0 + n) b → Has X n b
 start-at {X} {b} n h = subst (λ (x : ℕ). Has X x b) (let e : 0 + n ≡ n = omega arith in e) h
 
-pub place : (X Y : List Block) → All Sound X → (i : ℕ) → i < length X → Place (slotAt X) (slotAt Y) (total X) (total Y) (total (take i X)) (getD X i blank)
+pub place : (X Y : List Block) → All Sound X → (i : ℕ) → i < length X → Place (slotAt X) (slotAt Y) (total X) (total Y) (total (take i X)) (getD X i noBlock)
 place X Y g i l = record {
   has = start-at (total (take i X)) (has-at (slots X) i l);
-  ordered = all-at blank g i l .ordered;
+  ordered = all-at noBlock g i l .ordered;
   edge = λ y h. let w = in-slots (slots-take i (slots X)) y (omega arith) (omega arith) .within in omega arith;
   fits = total-take X i l;
   other = bounded Y;
@@ -158,7 +158,7 @@ place X Y g i l = record {
 module _ (X Y : List Block) (i : ℕ) (l : i < length X) where
   -- of a pair of fillings, first shape first
   pub run-in : {f g : List (List ℕ)} {r : List ℕ} → Filling X f → Filling Y g → textOf f ≡ textOf g → getD f i [] ≡ r
-      → RunIn (slotAt X) (slotAt Y) (total X) (total Y) (total (take i X)) (getD X i blank) r
+      → RunIn (slotAt X) (slotAt Y) (total X) (total Y) (total (take i X)) (getD X i noBlock) r
   run-in {f} {g} {r} x y e at =
       let a = around (slots X) x i l in
       let zero-first : (n : ℕ) → 0 + n ≡ n = λ n. omega arith in
@@ -166,13 +166,13 @@ module _ (X Y : List Block) (i : ℕ) (l : i < length X) where
         front = a .front;
         back = a .back;
         before = walk-to (zero-first (total (take i X))) (a .before);
-        run = subst (Run (getD X i blank)) at (a .run);
-        after = walk-to (zero-first (total X)) (walk-from (let z : total (take i X) + getD X i blank .upper ≡ 0 + total (take i X) + getD X i blank .upper = omega arith in z) (a .after));
+        run = subst (Run (getD X i noBlock)) at (a .run);
+        after = walk-to (zero-first (total X)) (walk-from (let z : total (take i X) + getD X i noBlock .upper ≡ 0 + total (take i X) + getD X i noBlock .upper = omega arith in z) (a .after));
         other = walk-text (sym e ∙ a .text ∙ ap (λ (q : List ℕ). a .front ++ (q ++ a .back)) at) (walk-to (zero-first (total Y)) (filling-walk (slots Y) y));
       }
 
   module _ (gx : All Sound X) (gy : All Sound Y) where
-    pub fillings-with : {r : List ℕ} → RunIn (slotAt X) (slotAt Y) (total X) (total Y) (total (take i X)) (getD X i blank) r
+    pub fillings-with : {r : List ℕ} → RunIn (slotAt X) (slotAt Y) (total X) (total Y) (total (take i X)) (getD X i noBlock) r
         → (t : List ℕ) × Rejoined X i r t × Fits Y t
     fillings-with {r} h = (
       h .front ++ (r ++ h .back),
@@ -191,11 +191,11 @@ module _ (X Y : List Block) (gx : All Sound X) (gy : All Sound Y) where
   choice x y e d = pair-satisfies Same x y (e ∙ sym d)
 
   module _ (i : ℕ) where
-    pub taken-first : i < length X → {b : Block} → Tight (RunIn (slotAt X) (slotAt Y) (total X) (total Y) (total (take i X)) (getD X i blank)) b
+    pub taken-first : i < length X → {b : Block} → Tight (RunIn (slotAt X) (slotAt Y) (total X) (total Y) (total (take i X)) (getD X i noBlock)) b
         → Tight (Taken (Pairs Same (length X)) (X ++ Y) i) b
     taken-first l t = tight-same to from t
       where
-        to : (r : List ℕ) → RunIn (slotAt X) (slotAt Y) (total X) (total Y) (total (take i X)) (getD X i blank) r → Taken (Pairs Same (length X)) (X ++ Y) i r
+        to : (r : List ℕ) → RunIn (slotAt X) (slotAt Y) (total X) (total Y) (total (take i X)) (getD X i noBlock) r → Taken (Pairs Same (length X)) (X ++ Y) i r
         to r h =
             let p = fillings-with X Y i l gx gy h in
             let x = p .1 in
@@ -206,16 +206,16 @@ module _ (X Y : List Block) (gx : All Sound X) (gy : All Sound Y) where
               run = List·getD-append (x .runs) (y .runs) [] i (let n = filling-size (x .filling) in omega arith) ∙ x .run;
             }
 
-        from : (r : List ℕ) → Taken (Pairs Same (length X)) (X ++ Y) i r → RunIn (slotAt X) (slotAt Y) (total X) (total Y) (total (take i X)) (getD X i blank) r
+        from : (r : List ℕ) → Taken (Pairs Same (length X)) (X ++ Y) i r → RunIn (slotAt X) (slotAt Y) (total X) (total Y) (total (take i X)) (getD X i noBlock) r
         from r k =
             let s = k .satisfies in
             run-in X Y i l (split-first X Y (s .filling)) (split-second X Y (s .filling)) (s .rule) (getD-take (length X) (k .runs) i [] l ∙ k .run)
 
-    pub taken-second : i < length Y → {b : Block} → Tight (RunIn (slotAt Y) (slotAt X) (total Y) (total X) (total (take i Y)) (getD Y i blank)) b
+    pub taken-second : i < length Y → {b : Block} → Tight (RunIn (slotAt Y) (slotAt X) (total Y) (total X) (total (take i Y)) (getD Y i noBlock)) b
         → Tight (Taken (Pairs Same (length X)) (X ++ Y) (length X + i)) b
     taken-second l t = tight-same to from t
       where
-        to : (r : List ℕ) → RunIn (slotAt Y) (slotAt X) (total Y) (total X) (total (take i Y)) (getD Y i blank) r → Taken (Pairs Same (length X)) (X ++ Y) (length X + i) r
+        to : (r : List ℕ) → RunIn (slotAt Y) (slotAt X) (total Y) (total X) (total (take i Y)) (getD Y i noBlock) r → Taken (Pairs Same (length X)) (X ++ Y) (length X + i) r
         to r h =
             let p = fillings-with Y X i l gy gx h in
             let y = p .1 in
@@ -226,7 +226,7 @@ module _ (X Y : List Block) (gx : All Sound X) (gy : All Sound Y) where
               run = ap (λ (n : ℕ). getD (x .runs ++ y .runs) (n + i) []) (sym (filling-size (x .filling))) ∙ getD-append-add (x .runs) (y .runs) i [] ∙ y .run;
             }
 
-        from : (r : List ℕ) → Taken (Pairs Same (length X)) (X ++ Y) (length X + i) r → RunIn (slotAt Y) (slotAt X) (total Y) (total X) (total (take i Y)) (getD Y i blank) r
+        from : (r : List ℕ) → Taken (Pairs Same (length X)) (X ++ Y) (length X + i) r → RunIn (slotAt Y) (slotAt X) (total Y) (total X) (total (take i Y)) (getD Y i noBlock) r
         from r k =
             let s = k .satisfies in
             run-in Y X i l (split-second X Y (s .filling)) (split-first X Y (s .filling)) (sym (s .rule)) (getD-drop (length X) (k .runs) i [] ∙ k .run)
@@ -250,7 +250,7 @@ module _ (X Y : List Block) (gx : All Sound X) (gy : All Sound Y) where
 
   -- where there is a pair, each block has a run in it
   pub some-first : Path (slotAt X) (slotAt Y) (total X) (total Y) 0 0 → (i : ℕ) → i < length X
-      → (n : ℕ) × Ends (slotAt X) (slotAt Y) (total X) (total Y) (total (take i X)) (getD X i blank) n
+      → (n : ℕ) × Ends (slotAt X) (slotAt Y) (total X) (total Y) (total (take i X)) (getD X i noBlock) n
   some-first p i l =
       let t = text-of p in
       let x = walk-fits (bounded X) (slots X) gx (omega arith) (t .1) in
@@ -258,8 +258,8 @@ module _ (X Y : List Block) (gx : All Sound X) (gy : All Sound Y) where
       (_, ends-of (place X Y gx i l) (getD (x .runs) i []) (run-in X Y i l (x .filling) (y .filling) (x .joined ∙ sym (y .joined)) refl))
 
   pub equal-hull : (X′ Y′ : List Block) → Path (slotAt X) (slotAt Y) (total X) (total Y) 0 0 → length X′ ≡ length X → length Y′ ≡ length Y
-      → ((i : ℕ) → i < length X → Collected (slotAt X) (slotAt Y) (total X) (total Y) (total (take i X)) (getD X i blank) (getD X′ i blank))
-      → ((i : ℕ) → i < length Y → Collected (slotAt Y) (slotAt X) (total Y) (total X) (total (take i Y)) (getD Y i blank) (getD Y′ i blank))
+      → ((i : ℕ) → i < length X → Collected (slotAt X) (slotAt Y) (total X) (total Y) (total (take i X)) (getD X i noBlock) (getD X′ i noBlock))
+      → ((i : ℕ) → i < length Y → Collected (slotAt Y) (slotAt X) (total Y) (total X) (total (take i Y)) (getD Y i noBlock) (getD Y′ i noBlock))
       → Hull (Pairs Same (length X)) (X ++ Y) (X′ ++ Y′)
   equal-hull X′ Y′ p ex ey fx fy = record {
     size = length-append X′ Y′ ∙ (let e : length X′ + length Y′ ≡ length X + length Y = omega arith in e) ∙ sym (length-append X Y);
@@ -267,16 +267,16 @@ module _ (X Y : List Block) (gx : All Sound X) (gy : All Sound Y) where
     tight = λ i l. ⊎-elim (low i) (λ g. high i g (let e = length-append X Y in omega arith)) (lt-or-le i (length X));
   }
     where
-      low : (i : ℕ) → i < length X → Tight (Taken (Pairs Same (length X)) (X ++ Y) i) (getD (X′ ++ Y′) i blank)
-      low i l = subst (Tight (Taken (Pairs Same (length X)) (X ++ Y) i)) (sym (List·getD-append X′ Y′ blank i (omega arith)))
+      low : (i : ℕ) → i < length X → Tight (Taken (Pairs Same (length X)) (X ++ Y) i) (getD (X′ ++ Y′) i noBlock)
+      low i l = subst (Tight (Taken (Pairs Same (length X)) (X ++ Y) i)) (sym (List·getD-append X′ Y′ noBlock i (omega arith)))
           (taken-first i l (collected-tight (place X Y gx i l) (fx i l)))
 
-      high : (i : ℕ) → length X ≤ i → i < length X + length Y → Tight (Taken (Pairs Same (length X)) (X ++ Y) i) (getD (X′ ++ Y′) i blank)
+      high : (i : ℕ) → length X ≤ i → i < length X + length Y → Tight (Taken (Pairs Same (length X)) (X ++ Y) i) (getD (X′ ++ Y′) i noBlock)
       high i g l =
           let k : ℕ = i - length X in
           let small : k < length Y = omega arith in
           let at : length X + k ≡ i = omega arith in
           let at′ : length X′ + k ≡ i = omega arith in
-          subst (λ (n : ℕ). Tight (Taken (Pairs Same (length X)) (X ++ Y) n) (getD (X′ ++ Y′) i blank)) at
-          (subst (Tight (Taken (Pairs Same (length X)) (X ++ Y) (length X + k))) (sym (ap (λ (n : ℕ). getD (X′ ++ Y′) n blank) (sym at′) ∙ getD-append-add X′ Y′ k blank))
+          subst (λ (n : ℕ). Tight (Taken (Pairs Same (length X)) (X ++ Y) n) (getD (X′ ++ Y′) i noBlock)) at
+          (subst (Tight (Taken (Pairs Same (length X)) (X ++ Y) (length X + k))) (sym (ap (λ (n : ℕ). getD (X′ ++ Y′) n noBlock) (sym at′) ∙ getD-append-add X′ Y′ k noBlock))
           (taken-second k small (collected-tight (place Y X gy k small) (fy k small))))

@@ -11,7 +11,8 @@ use Rattle.shapes.proofs.All.{all-append, all-map}
 use Rattle.shapes.specs.Shape.{Block}
 use Rattle.numerals.specs.Digits.{glyph}
 use Rattle.numerals.proofs.Digits.{glyph-low, glyph-high, digits-glyphs}
-use Rattle.book_lines.specs.Book.{Rule, textsWord, blocksWord, rulesWord, headLine, twoNumbers, blockLine, ruleLine}
+use Rattle.rules.specs.declared.Rule.{Rule}
+use Rattle.book_lines.specs.Book.{textsWord, blocksWord, rulesWord, headLine, twoNumbers, blockLine, ruleLine}
 use Rattle.book_lines.specs.Lines.{Without}
 use Rattle.book_lines.proofs.Read.{without-decimal}
 
@@ -25,7 +26,7 @@ glyph-least d = ⊎-elim (λ h. let e = glyph-low d h in omega arith) (λ h. let
 
 pub without-rule : (r : Rule) → Without 10 (ruleLine r)
 unfolding ruleLine
-without-rule r = all-append (without-decimal 10 (r .kind) (omega arith)) (more (λ e. omega arith) (without-two (r .first) (r .second)))
+without-rule r = all-append (without-decimal 10 (r .kind) (omega arith)) (more (λ e. omega arith) (without-two (r .a) (r .b)))
 
 pub without-block : (b : Block) → Without 10 (blockLine b)
 unfolding blockLine

@@ -9,12 +9,15 @@ use Rattle.shapes.specs.All.All.{none, more}
 use Rattle.shapes.proofs.All.{all-append}
 use Rattle.shapes.specs.Shape.{Block}
 use Rattle.shapes.specs.Lent.{shapeOf, blockOf}
-use Rattle.book_lines.specs.Book.{Rule, joined}
-use Rattle.book_lines.specs.Lines.{Without, First, Says, SaysNone, ruleOf}
+use Rattle.rules.specs.declared.Rule.{Rule}
+use Rattle.book_lines.specs.Book.{joined}
+use Rattle.rules.specs.Rule.{ruleOf}
+use Rattle.book_lines.specs.Lines.{Without, First, Says, SaysNone}
 use Rattle.book_lines.proofs.Joined.{joined-append, map-more}
 use Rattle.book_lines.proofs.Split.{first-split, first-parts, none-parts}
 use Rattle.sections.specs.Steps.{State, Path, DepartsFrom}
-use Rattle.sections.specs.Parts.{rulesOf, LineIs, LineIsNone, LinesAre}
+use Rattle.rules.specs.Rule.{rulesOf}
+use Rattle.sections.specs.Parts.{LineIs, LineIsNone, LinesAre}
 use Rattle.sections.proofs.Steps.{Kind, items-path}
 
 module _ {X : Type 0} (Right : X → Type 0) (text : X → List ℕ) (bytes : List ℕ) where

@@ -114,7 +114,7 @@ small-zero : Small 0
 small-zero = omega arith
 
 rules-on : (n : ℕ) → (ls : List (List ℕ)) × Path (rules n) ls (rules 0)
-rules-on n = items-on rules-kind (record { kind = 0; first = 0; second = 0 }) (record { kind = small-zero; first = small-zero; second = small-zero }) n
+rules-on n = items-on rules-kind (record { kind = 0; a = 0; b = 0 }) (record { kind = small-zero; a = small-zero; b = small-zero }) n
 
 blocks-on : (n : ℕ) → (ls : List (List ℕ)) × Path (blocks n) ls (rules 0)
 blocks-on n =

@@ -6,8 +6,9 @@ use lib.ListN.{length, take, drop}
 use Rattle.shapes.specs.All.{All}
 use Rattle.shapes.specs.Lent.{meant}
 use Rattle.numerals.specs.Digits.{decimal}
-use Rattle.book_lines.specs.Book.{Rule, Small, RightBlock, RightRule, headLine, blockLine, ruleLine, joined}
-use Rattle.book_lines.specs.Lines.{ruleOf}
+use Rattle.rules.specs.declared.Rule.{Rule}
+use Rattle.book_lines.specs.Book.{Small, RightBlock, RightRule, headLine, blockLine, ruleLine, joined}
+use Rattle.rules.specs.Rule.{ruleOf}
 use Rattle.sections.specs.declared.NumberAt.{NumberAt}
 use Rattle.sections.specs.declared.NumberAt.the-variants.{Is as number, Not as no-number}
 use Rattle.sections.specs.declared.BlockAt.{BlockAt}
@@ -17,13 +18,6 @@ use Rattle.sections.specs.declared.RuleAt.the-variants.{Is as rule, Not 
 use Rattle.sections.specs.declared.Lines.{Lines}
 use Rattle.sections.specs.declared.Lines.the-variants.{Read as lines-read, Departs as lines-depart}
 use Rattle.sections.specs.Steps.{State, DepartsFrom}
-
--- The rules that some numbers are, three to a rule.
-unfoldable pub rulesOf : List ℕ → List Rule
-rulesOf [] = []
-rulesOf (k ∷ []) = []
-rulesOf (k ∷ (a ∷ [])) = []
-rulesOf (k ∷ (a ∷ (b ∷ xs))) = ruleOf k a b ∷ rulesOf xs
 
 -- x is the first line of the bytes, which ends at place m
 pub record LineIs {X : Type 0} (Right : X → Type 0) (text : X → List ℕ) (bytes : List ℕ) (x : X) (m : ℕ) : Type 0 where

@@ -14,7 +14,8 @@ ghost use Rattle.numerals.specs.Digits.{decimal};
 ghost use Rattle.book_lines.specs.Book.{Small, RightBlock, RightRule, blockLine, ruleLine};
 ghost use Rattle.book_lines.specs.Lines.{Without};
 ghost use Rattle.sections.specs.Steps.State.{counts as toCounts, blocks as toBlocks, rules as toRules};
-ghost use Rattle.sections.specs.Parts.{rulesOf, HeadAt, CountAt, BlockHere, RuleHere, LinesRead};
+ghost use Rattle.rules.specs.Rule.{rulesOf};
+ghost use Rattle.sections.specs.Parts.{HeadAt, CountAt, BlockHere, RuleHere, LinesRead};
 
 // A line at the start of some bytes: what it says, and the place past its newline.
 pub enum NumberAt {

@@ -6,12 +6,13 @@ use Rattle.bases.proofs.Laws.{words-bound}
 use native.Mathlib.Numerals.{add-one}
 use native.Mathlib.Omega.{arith}
 use lib.ListN.{length, getD, take, drop, drop-of-length-le}
-use lib.Seq.{drop-cons, take-all}
+use lib.Seq.{drop-cons}
 use Rattle.shapes.specs.All.{All}
 use Rattle.shapes.specs.All.All.{none, more}
-use Rattle.shapes.specs.Shape.{Block, Sound, Small, total}
-use Rattle.shapes.specs.Lent.{blockOf, blockAt, shapeOf}
-use Rattle.shapes.proofs.All.{all-at, all-one-more}
+use Rattle.shapes.specs.FirstBad.{FirstBad}
+use Rattle.shapes.specs.Shape.{Block, Sound, Small, noBlock, total}
+use Rattle.shapes.specs.Lent.{blockOf, blockAt, shapeOf, FirstUnsound}
+use Rattle.shapes.proofs.All.{all-at, all-of}
 
 pub shape-length : (xs : List ℕ) → length (shapeOf xs) ≡ length xs / 4
 unfolding shapeOf
@@ -50,14 +51,23 @@ shape-from xs i h =
 pub none-left : (xs : List ℕ) → drop (length xs / 4) (shapeOf xs) ≡ []
 none-left xs = let past : length (shapeOf xs) ≤ length xs / 4 = let e = shape-length xs in omega arith in drop-of-length-le (shapeOf xs) past
 
--- ---- blocks that are sound so far
+-- ---- the blocks by number, and as a list
 
-pub one-more-sound : (xs : List ℕ) (i : ℕ) → i < length xs / 4 → All Sound (take i (shapeOf xs)) → Sound (blockAt xs i) → All Sound (take (i + 1) (shapeOf xs))
-one-more-sound xs i h g p =
-    all-one-more (shapeOf xs) i (blockAt xs i) (let e = shape-length xs in omega arith) g (subst Sound (sym (shape-at xs i (blockAt xs i) h)) p)
+pub all-sound : (xs : List ℕ) → ((i : ℕ) → i < length xs / 4 → Sound (blockAt xs i)) → All Sound (shapeOf xs)
+all-sound xs h = all-of (shapeOf xs) noBlock
+    (λ i l. let e = shape-length xs in let b : i < length xs / 4 = omega arith in subst Sound (sym (shape-at xs i noBlock b)) (h i b))
 
-pub all-sound : (xs : List ℕ) (i : ℕ) → length xs / 4 ≤ i → All Sound (take i (shapeOf xs)) → All Sound (shapeOf xs)
-all-sound xs i h g = subst (All Sound) (take-all i (shapeOf xs) (let e = shape-length xs in omega arith)) g
+pub first-unsound : (xs : List ℕ) {i : ℕ} → FirstBad (length xs / 4) (λ j. Sound (blockAt xs j)) i → FirstUnsound (shapeOf xs) i
+first-unsound xs f =
+    let e = shape-length xs in
+    let w = f .within in
+    record {
+      before = f .before;
+      place = f .place;
+      within = omega arith;
+      good = λ j h. subst Sound (sym (shape-at xs j noBlock (omega arith))) (f .good j h);
+      bad = λ s. f .bad (subst Sound (shape-at xs (f .before) noBlock w) s);
+    }
 
 -- ---- the uppers still ahead
 

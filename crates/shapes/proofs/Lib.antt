@@ -1,5 +1,6 @@
 -- The laws of shapes that other crates cite.
 pub mod All
+pub mod FirstBad
 pub mod Lent
 pub mod Refused
 pub mod Fits

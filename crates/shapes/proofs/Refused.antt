@@ -1,21 +1,18 @@
 -- The refusals of a shape: what the check of its blocks says of the whole, and that one input has one answer. Assumes nothing.
-use mathlib.Core.Path.{_≡_, sym, ap, _∙_, subst}
+use mathlib.Core.Path.{_≡_, sym, ap, _∙_}
 use mathlib.Core.List.{List}
-use mathlib.Core.Logic.{_⊎_, ⊎-elim}
-use Prim.Native.Nat.{ℕ, _+_, _≤_, _<_}
+use Prim.Native.Nat.{ℕ, _≤_}
 use native.Mathlib.Omega.{arith}
-use lib.ListN.{length, getD, length-take}
-use lib.Seq.{getD-take}
 use Rattle.answers.specs.Told.{Told, tell}
 use Rattle.answers.specs.declared.Checked.{Checked}
 use Rattle.answers.specs.declared.Checked.the-variants.{Sound as is-sound, Refused}
-use Rattle.bases.proofs.Plain.{lt-or-le}
 use Rattle.shapes.specs.All.{All}
-use Rattle.shapes.specs.Shape.{Block, Sound, total}
+use Rattle.shapes.specs.Shape.{Block, Sound, noBlock, total}
 use Rattle.shapes.specs.Lent.{shapeOf, RightLength, FirstUnsound, BlocksRefused, ShapeRefused, Accepted, BlocksChecked, ShapeChecked}
 use Rattle.shapes.specs.Lent.BlocksRefused.{unsound, too-long}
 use Rattle.shapes.specs.Lent.ShapeRefused.{wrong-length, wrong-blocks}
 use Rattle.shapes.proofs.All.{all-at}
+use Rattle.shapes.proofs.FirstBad.{first-bad-one, first-bad-none}
 
 -- numbers of the right length are checked as their blocks are
 pub blocks-then : (n : ℕ) (xs : List ℕ) (r : Checked) → RightLength xs → BlocksChecked n (shapeOf xs) r → ShapeChecked n xs r
@@ -24,31 +21,12 @@ blocks-then n xs (Refused r) h p = wrong-blocks h p
 
 -- ---- one answer
 
-some-block : Block
-some-block = record { base = 0; lower = 0; upper = 0 }
-
--- a block before the first unsound one is sound
-before-first : (s : List Block) {i : ℕ} → FirstUnsound s i → (k : ℕ) → k + 1 < i → (b : Block) → Sound (getD s k b)
-before-first s u k h b =
-    let e = u .place in
-    let w = u .within in
-    let l = length-take (u .before) s in
-    subst Sound (getD-take (u .before) s k b (omega arith)) (all-at b (u .sound) k (omega arith))
-
-pub one-first : (s : List Block) {i j : ℕ} → FirstUnsound s i → FirstUnsound s j → i ≡ j
-one-first s {i} {j} u v = ⊎-elim
-    (λ h. absurd (u .unsound some-block (before-first s v (u .before) (let e = u .place in omega arith) some-block)))
-    (λ h. ⊎-elim
-    (λ g. absurd (v .unsound some-block (before-first s u (v .before) (let e = v .place in omega arith) some-block)))
-    (λ g. omega arith) (lt-or-le j i))
-    (lt-or-le i j)
-
 -- blocks that are all sound have no first unsound one
-pub none-unsound : (s : List Block) {i : ℕ} → All Sound s → FirstUnsound s i → ⊥
-none-unsound s g u = u .unsound some-block (all-at some-block g (u .before) (u .within))
+none-unsound : (s : List Block) {i : ℕ} → All Sound s → FirstUnsound s i → ⊥
+none-unsound s g u = first-bad-none (all-at noBlock g) u
 
 pub blocks-one : {n : ℕ} {s : List Block} {t u : Told} → BlocksRefused n s t → BlocksRefused n s u → t ≡ u
-blocks-one (unsound i a p) (unsound j b q) = p ∙ ap (tell 2 _) (one-first _ a b) ∙ sym q
+blocks-one (unsound i a p) (unsound j b q) = p ∙ ap (tell 2 _) (first-bad-one a b) ∙ sym q
 blocks-one (unsound i a p) (too-long g h q) = absurd (none-unsound _ g a)
 blocks-one (too-long g h p) (unsound j b q) = absurd (none-unsound _ g b)
 blocks-one (too-long g h p) (too-long g′ h′ q) = p ∙ sym q

@@ -2,14 +2,19 @@
 use mathlib.Core.Path.{_≡_}
 use mathlib.Core.List.{List, [], _∷_}
 use Prim.Native.Nat.{ℕ, _+_, _*_, _/_, _%_, _^_, _≤_, _<_}
-use lib.ListN.{length, getD, take}
+use lib.ListN.{length, getD}
 use Rattle.answers.specs.Told.{Told, tell, told}
 use Rattle.answers.specs.declared.Checked.{Checked}
 use Rattle.answers.specs.declared.Checked.the-variants.{Sound as is-sound, Refused}
 use Rattle.bases.specs.Base.{baseOf}
 use Rattle.shapes.specs.All.{All}
 use Rattle.shapes.specs.declared.Words.{Words}
-use Rattle.shapes.specs.Shape.{Block, Sound, total}
+use Rattle.shapes.specs.FirstBad.{FirstBad}
+use Rattle.shapes.specs.Shape.{Block, Sound, noBlock, total}
+
+-- Lent numbers are 64-bit numbers.
+abbrev pub Numbers : List ℕ → Type 0
+Numbers xs = All (λ (x : ℕ). x < 2 ^ 64) xs
 
 -- A block is four numbers: base codes 0 to 63, base codes 64 to 127, lower, upper.
 abbrev pub blockOf : ℕ → ℕ → ℕ → ℕ → Block
@@ -42,13 +47,9 @@ pub record RightLength (xs : List ℕ) : Type 0 where
   pub some : 1 ≤ length xs / 4
   pub few : length xs / 4 ≤ 32
 
--- Block number i, from 1, is the first that is not sound. (`b` is any block, looked at only past the end.)
-pub record FirstUnsound (s : List Block) (i : ℕ) : Type 0 where
-  pub before : ℕ
-  pub place : i ≡ before + 1
-  pub within : before < length s
-  pub sound : All Sound (take before s)
-  pub unsound : (b : Block) → Sound (getD s before b) → ⊥
+-- Block number i, from 1, is the first that is not sound.
+abbrev pub FirstUnsound : List Block → ℕ → Type 0
+FirstUnsound s i = FirstBad (length s) (λ j. Sound (getD s j noBlock)) i
 
 -- Refusals 2 and 3, of the blocks of shape number n.
 pub data BlocksRefused (n : ℕ) (s : List Block) (t : Told) : Type 0 where

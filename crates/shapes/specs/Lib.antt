@@ -1,5 +1,5 @@
 -- What a shape means, and which lent numbers are one.
 pub mod All
+pub mod FirstBad
 pub mod Shape
 pub mod Lent
-pub mod Code

@@ -13,6 +13,10 @@ pub record Block : Type 0 where
   pub lower : ℕ
   pub upper : ℕ
 
+-- Looked at only past the end of a list.
+abbrev pub noBlock : Block
+noBlock = record { base = 0; lower = 0; upper = 0 }
+
 -- A block is sound if lower <= upper <= 250 and the base is empty exactly when upper is 0.
 pub record Sound (b : Block) : Type 0 where
   pub ordered : b .lower ≤ b .upper

@@ -7,7 +7,7 @@ ghost use lib.ListN.{length};
 ghost use Rattle.bases.specs.Tells.{Tells};
 ghost use Rattle.shapes.specs.Shape.{Sound, total};
 ghost use Rattle.shapes.specs.Lent.{meant, blockAt, shapeOf, BlocksChecked, ShapeChecked};
-ghost use Rattle.shapes.specs.Code.{SoundUpTo};
+ghost use Rattle.shapes.specs.FirstBad.{UpTo};
 
 // The four numbers of a block.
 pub struct Words {
@@ -49,7 +49,7 @@ pub fn is_sound(b: Words) -> bool
 
 // How many blocks are sound before the first that is not.
 fn sound_blocks(shape: &[u64]) -> usize
-    ensures { λ r. ⌜ SoundUpTo (now (shape .entry)) r ⌝ }
+    ensures { λ r. ⌜ UpTo (length (now (shape .entry)) / 4) (λ i. Sound (blockAt (now (shape .entry)) i)) r ⌝ }
 {
     let n = shape.len() / 4;
     let mut good = 0;

@@ -7,12 +7,11 @@ use native.Mathlib.Omega.{arith}
 use lib.ListN.{length, getD, take}
 use Rattle.bases.specs.Base.{Holds}
 use Rattle.bases.proofs.Plain.{lt-or-le}
-use Rattle.shapes.specs.Shape.{Block, total}
+use Rattle.shapes.specs.Shape.{Block, total, noBlock}
 use Rattle.shapes.specs.Lent.{shapeOf, blockAt}
 use Rattle.shapes.proofs.Lent.{shape-at, shape-length}
 use Rattle.layouts.specs.Slots.{Put}
 use Rattle.layouts.proofs.Slots.{put-others}
-use Rattle.hulls.specs.Hull.{blank}
 use Rattle.order_sides.specs.Guide.{Guide}
 use Rattle.order_sides.specs.Collect.{Collected}
 use Rattle.side_tables.specs.Board.{guideOf}
@@ -61,7 +60,7 @@ module _ {xs next parts : List ℕ} {n m : ℕ} {w : List ℕ} {free : ℕ} (S :
 
 -- ---- one block more
 
-total-next : (s : List Block) (i : ℕ) → i < length s → total (take (suc i) s) ≡ total (take i s) + getD s i blank .upper
+total-next : (s : List Block) (i : ℕ) → i < length s → total (take (suc i) s) ≡ total (take i s) + getD s i noBlock .upper
 unfolding total
 total-next [] i h = absurd (omega arith)
 total-next (b ∷ s) zero h = let z : total (take 0 s) ≡ 0 = nothing s in omega arith
@@ -75,7 +74,7 @@ pub next-start : (x : List ℕ) (i j : ℕ) → j ≡ i + 1 → i < length x / 4
 next-start x i j e h =
     ap (λ (z : ℕ). total (take z (shapeOf x))) (let d : j ≡ suc i = omega arith in d)
     ∙ total-next (shapeOf x) i (let l = shape-length x in omega arith)
-    ∙ ap (λ (b : Block). total (take i (shapeOf x)) + b .upper) (shape-at x i blank h)
+    ∙ ap (λ (b : Block). total (take i (shapeOf x)) + b .upper) (shape-at x i noBlock h)
 
 pub narrowed-none : {X : ℕ → Block} {G : Guide} {U : ℕ} (x out : List ℕ) → Narrowed X G U x out 0 out
 narrowed-none x out = record { long = refl; blocks = λ i h. absurd (omega arith); kept = λ k h. refl }

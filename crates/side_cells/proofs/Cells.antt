@@ -5,8 +5,8 @@ use mathlib.Core.List.{List}
 use mathlib.Core.Logic.{_⊎_, ⊎-elim}
 use Prim.Native.Nat.{ℕ, _+_, _-_, _≤_, _<_}
 use native.Mathlib.Omega.{arith}
+use Rattle.bases.proofs.Tells.{tells-false}
 use Rattle.bases.specs.Tells.{Tells}
-use Rattle.bases.proofs.Laws.{tells-false}
 use Rattle.bases.proofs.Plain.{lt-or-le}
 use Rattle.bases.specs.Base.{Meets}
 use Rattle.shapes.specs.Shape.{Block}

@@ -8,12 +8,12 @@ use lib.ListN.{length, getD, take, drop, length-drop, take-append-drop}
 use lib.Seq.{ext-getD, getD-take, getD-drop, length-take-le}
 use Rattle.bases.specs.Base.{Empty}
 use Rattle.bases.proofs.Plain.{lt-or-le}
-use Rattle.shapes.specs.Shape.{Block, total}
+use Rattle.shapes.specs.Shape.{Block, total, noBlock}
 use Rattle.shapes.specs.Lent.{blockAt, shapeOf, wordsOf}
 use Rattle.shapes.proofs.All.{all-of}
 use Rattle.shapes.proofs.Lent.{shape-length, shape-at, block-sound}
 use Rattle.shapes.proofs.Numbers.{words-shape}
-use Rattle.hulls.specs.Hull.{None, blank}
+use Rattle.hulls.specs.Hull.{None}
 use Rattle.rests.specs.Walk.{Bounded}
 use Rattle.rests.proofs.Laid.{Slots}
 use Rattle.layouts.proofs.Slots.{laid-bounded, blocks-same}
@@ -61,7 +61,7 @@ module _ {x xs next parts : List ℕ} {n m : ℕ} {w out : List ℕ} (r : Ready 
   placed-of : (i : ℕ) → i < length x / 4 → Placed (blockAt xs) (total (shapeOf x)) (total (take i (shapeOf x))) (blockAt x i)
   unfolding Empty
   placed-of i h =
-      let s = subst (Spot (blockAt xs) (total (shapeOf x)) (total (take i (shapeOf x)))) (shape-at x i blank h) (spot (shapeOf x) slots bounds (r .whole .sound) i (within h)) in
+      let s = subst (Spot (blockAt xs) (total (shapeOf x)) (total (take i (shapeOf x)))) (shape-at x i noBlock h) (spot (shapeOf x) slots bounds (r .whole .sound) i (within h)) in
       let o = block-sound x i h (r .whole .sound) in
       record { slot = s .has .slot; ordered = s .ordered; fits = s .fits; room = λ c k. ⊎-elim (λ l. l) (λ l. absurd (o .bare (omega arith) c k)) (lt-or-le 0 (blockAt x i .upper)) }
 
@@ -71,7 +71,7 @@ module _ {x xs next parts : List ℕ} {n m : ℕ} {w out : List ℕ} (r : Ready 
   ending-of : Clear (blockAt xs) (guideOf next parts) n 0 0 → (i : ℕ) → i < length x / 4 → Ending (blockAt xs) (guideOf next parts) (total (shapeOf x)) (total (take i (shapeOf x))) (blockAt x i)
   ending-of k i h =
       let e = side-ends (shapeOf x) slots bounds (r .whole .sound) (guideOf next parts) i (within h) (at-total k) in
-      record { length-is = e .0; ends = subst (λ (b : Block). Ends (blockAt xs) (guideOf next parts) (total (shapeOf x)) (total (take i (shapeOf x))) b (e .0)) (shape-at x i blank h) (e .1) }
+      record { length-is = e .0; ends = subst (λ (b : Block). Ends (blockAt xs) (guideOf next parts) (total (shapeOf x)) (total (take i (shapeOf x))) b (e .0)) (shape-at x i noBlock h) (e .1) }
 
   pub laid-of : Clear (blockAt xs) (guideOf next parts) n 0 0 → Laid (blockAt xs) (guideOf next parts) n x
   laid-of k = subst (λ (z : ℕ). Laid (blockAt xs) (guideOf next parts) z x) (sym (r .size)) (record { all = refl; placed = placed-of; ending = ending-of k })
@@ -89,16 +89,16 @@ module _ {x xs next parts : List ℕ} {n m : ℕ} {w out : List ℕ} (r : Ready 
     size : length (shapeOf (take (length x) out′)) ≡ length (shapeOf x)
     size = shape-length (take (length x) out′) ∙ ap (λ (n : ℕ). n / 4) taken ∙ sym (shape-length x)
 
-    at : (i : ℕ) → i < length x / 4 → getD (shapeOf (take (length x) out′)) i blank ≡ blockAt out′ i
-    at i h = shape-at (take (length x) out′) i blank (let e = taken in omega arith) ∙ blocks-same
+    at : (i : ℕ) → i < length x / 4 → getD (shapeOf (take (length x) out′)) i noBlock ≡ blockAt out′ i
+    at i h = shape-at (take (length x) out′) i noBlock (let e = taken in omega arith) ∙ blocks-same
         (getD-take (length x) out′ (i * 4) 0 (omega arith)) (getD-take (length x) out′ (i * 4 + 1) 0 (omega arith))
         (getD-take (length x) out′ (i * 4 + 2) 0 (omega arith)) (getD-take (length x) out′ (i * 4 + 3) 0 (omega arith))
 
     collected-of : (i : ℕ) → i < length (shapeOf x)
-        → Collected (blockAt xs) (guideOf next parts) (total (shapeOf x)) (total (take i (shapeOf x))) (getD (shapeOf x) i blank) (getD (shapeOf (take (length x) out′)) i blank)
+        → Collected (blockAt xs) (guideOf next parts) (total (shapeOf x)) (total (take i (shapeOf x))) (getD (shapeOf x) i noBlock) (getD (shapeOf (take (length x) out′)) i noBlock)
     collected-of i l =
         let h : i < length x / 4 = let e = shape-length x in omega arith in
-        subst (λ (b : Block). Collected (blockAt xs) (guideOf next parts) (total (shapeOf x)) (total (take i (shapeOf x))) b (getD (shapeOf (take (length x) out′)) i blank)) (sym (shape-at x i blank h))
+        subst (λ (b : Block). Collected (blockAt xs) (guideOf next parts) (total (shapeOf x)) (total (take i (shapeOf x))) b (getD (shapeOf (take (length x) out′)) i noBlock)) (sym (shape-at x i noBlock h))
         (subst (Collected (blockAt xs) (guideOf next parts) (total (shapeOf x)) (total (take i (shapeOf x))) (blockAt x i)) (sym (at i h))
         (subst (λ (z : ℕ). Collected (blockAt xs) (guideOf next parts) z (total (take i (shapeOf x))) (blockAt x i) (blockAt out′ i)) (r .size) (s .blocks i h)))
 

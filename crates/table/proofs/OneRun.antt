@@ -6,8 +6,8 @@ use native.Mathlib.Omega.{arith}
 use lib.ListN.{length, getD}
 use Rattle.bases.specs.Base.{Holds}
 use Rattle.shapes.specs.All.{All}
-use Rattle.shapes.specs.Shape.{Block, Run, Filling, done, fill}
-use Rattle.hulls.specs.Hull.{Satisfies, Taken, Occurs, Tight, blank, Hull}
+use Rattle.shapes.specs.Shape.{Block, Run, Filling, done, fill, noBlock}
+use Rattle.hulls.specs.Hull.{Satisfies, Taken, Occurs, Tight, Hull}
 
 module _ {P : List (List ℕ) → Type 0} {b : Block} (r : List ℕ) (run : Run b r) (rule : P (r ∷ [])) (alone : (q : List ℕ) → Run b q → P (q ∷ []) → q ≡ r) where
   satisfies : Satisfies P (b ∷ []) (r ∷ [])
@@ -28,7 +28,7 @@ module _ {P : List (List ℕ) → Type 0} {b : Block} (r : List ℕ) (run : Run 
       fits : Run h r
       fits = record { held = held; enough = omega arith; bounded = omega arith }
 
-      tight : (i : ℕ) → i < length (b ∷ []) → Tight (Taken P (b ∷ []) i) (getD (h ∷ []) i blank)
+      tight : (i : ℕ) → i < length (b ∷ []) → Tight (Taken P (b ∷ []) i) (getD (h ∷ []) i noBlock)
       tight zero l = record {
         covers = λ q t. subst (Run h) (sym (only q t)) fits;
         held = λ c g. (r, taken, each c g);

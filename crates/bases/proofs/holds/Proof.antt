@@ -3,8 +3,9 @@ use mathlib.Core.Path.{sym, _∙_}
 use mathlib.Core.List.{[], _∷_}
 use Prim.Native.Nat.{_-_}
 use borrow.Author.Needs.{needs}
+use Rattle.bases.proofs.Tells.{tells-false, tells-bit}
 use Rattle.bases.specs.Base.{Holds}
-use Rattle.bases.proofs.Laws.{first-word, second-word, no-word, tells-bit, tells-false}
+use Rattle.bases.proofs.Laws.{first-word, second-word, no-word}
 use Rattle.bases.proofs.holds.Statement.{statement}
 use Rattle.bases.proofs.holds.Tie as tie
 

@@ -1,6 +1,7 @@
 -- `bases::is_empty`: a base is empty exactly if both of its words are 0. Assumes nothing.
 use borrow.Author.Tests.{eqb-true, eqb-false}
-use Rattle.bases.proofs.Laws.{empty-words, words-empty, tells-false}
+use Rattle.bases.proofs.Tells.{tells-false}
+use Rattle.bases.proofs.Laws.{empty-words, words-empty}
 use Rattle.bases.proofs.is_empty.Statement.{statement}
 use Rattle.bases.proofs.is_empty.Tie as tie
 

@@ -69,18 +69,18 @@ returns c = λ r h e. blank-none _ (r .kind) _ (subst (FoundIn 32 _) (c .enum-to
 
 returns-2 : tie.Need-returns-2
 unfolding ruleLine
-returns-2 c = λ r h e. subst (DecimalRead _) (c .enum-told2 .given .1) (c .before .before .read-decimal .ensures) (r .kind) (h .kind) (blank-parts _ _ (r .kind) (twoNumbers (r .first) (r .second)) (found (c .before .before .before .before .before)) e .0)
+returns-2 c = λ r h e. subst (DecimalRead _) (c .enum-told2 .given .1) (c .before .before .read-decimal .ensures) (r .kind) (h .kind) (blank-parts _ _ (r .kind) (twoNumbers (r .a) (r .b)) (found (c .before .before .before .before .before)) e .0)
 
 returns-3 : tie.Need-returns-3
 unfolding ruleLine
-returns-3 c = λ r h e. subst (TwoRead _) (c .enum-told3 .given .1) (c .before .before .read-two .ensures) (r .first) (r .second) (h .first) (h .second) (rest-of (c .before .before .before .before .before .before .before .before .before .before .before .before .before .before .args .line .now) (c .before .before .before .before .before .before .before .before .before .before .i .given .0 .0 + 1) ∙ blank-parts _ _ (r .kind) (twoNumbers (r .first) (r .second)) (found (c .before .before .before .before .before .before .before .before .before .before)) e .1)
+returns-3 c = λ r h e. subst (TwoRead _) (c .enum-told3 .given .1) (c .before .before .read-two .ensures) (r .a) (r .b) (h .a) (h .b) (rest-of (c .before .before .before .before .before .before .before .before .before .before .before .before .before .before .args .line .now) (c .before .before .before .before .before .before .before .before .before .before .i .given .0 .0 + 1) ∙ blank-parts _ _ (r .kind) (twoNumbers (r .a) (r .b)) (found (c .before .before .before .before .before .before .before .before .before .before)) e .1)
 
 returns-4 : tie.Need-returns-4
 unfolding ruleLine
 returns-4 c =
     let k = number (c .before .before .before .before .before .before) in
     let two = subst (TwoRead _) (c .before .a .given .1) (c .before .before .before .read-two .ensures) in
-    (record { kind = k .0; first = two .0; second = two .1 }, blank-is _ _ _ _ (found (c .before .before .before .before .before .before .before .before .before .before .before)) (k .1) (sym (rest-of (c .before .before .before .before .before .before .before .before .before .before .before .before .before .before .before .args .line .now) (c .before .before .before .before .before .before .before .before .before .before .before .i .given .0 .0 + 1)) ∙ two .2))
+    (record { kind = k .0; a = two .0; b = two .1 }, blank-is _ _ _ _ (found (c .before .before .before .before .before .before .before .before .before .before .before)) (k .1) (sym (rest-of (c .before .before .before .before .before .before .before .before .before .before .before .before .before .before .before .args .line .now) (c .before .before .before .before .before .before .before .before .before .before .before .i .given .0 .0 + 1)) ∙ two .2))
 
 pub read-rule-spec : {M : Type 1} → statement M
 read-rule-spec =

@@ -1,20 +1,20 @@
 -- `book_runs::run_book`: the check, then the rounds over a copy of the blocks, which is laid back where the shapes are stable. Assumes nothing.
 use mathlib.Core.Path.{_≡_, refl, sym, ap, _∙_, subst}
 use mathlib.Core.List.{List, _++_}
-use Prim.Native.Nat.{ℕ, _+_, _%_, _^_, _≤_, _<_}
+use Prim.Native.Nat.{ℕ, _+_, _%_, _≤_}
 use native.Mathlib.Omega.{arith}
 use borrow.Author.Needs.{needs}
 use lib.ListN.{length, take, drop, length-append}
 use lib.Seq.{take-at}
-use Rattle.shapes.specs.All.{All}
-use Rattle.shapes.specs.Lent.{shapeOf, wordsOf}
+use Rattle.shapes.specs.Lent.{Numbers, shapeOf, wordsOf}
 use Rattle.shapes.proofs.All.{all-of}
 use Rattle.shapes.proofs.Numbers.{words-shape}
 use Rattle.books.specs.Refused.{BookAccepted, BookChecked}
-use Rattle.book_runs.specs.Code.{replaced, Standing}
+use Rattle.laying.specs.Laid.{replaced}
+use Rattle.book_steps.specs.Step.{Standing}
 use Rattle.book_runs.specs.Runner.{EndedSays}
-use Rattle.book_runs.proofs.Laid.{front-back, all-over}
-use Rattle.book_runs.proofs.Standing.{standing-first, few-blocks}
+use Rattle.laying.proofs.Laid.{front-back, all-over}
+use Rattle.book_steps.proofs.Standing.{standing-first, few-blocks}
 use Rattle.book_runs.proofs.run_book.Statement.{statement}
 use Rattle.book_runs.proofs.run_book.Tie as tie
 
@@ -121,9 +121,9 @@ returns-3 c =
     let a = accepted (q .before .before .before .before .before .before .before) in
     let says = subst (EndedSays (args .counts .now) (args .rules .now) _ ys) (c .before .before .before .before .before .before .m2 .given .1) (q .run-rounds .ensures .0) in
     let over : c .before .before .lay2 .last .0 ≡ ys = c .before .before .lay2 .ensures ∙ ap (λ (x : List ℕ). replaced 0 x (args .blocks .now)) (back q _) ∙ all-over ys (args .blocks .now) (size q) in
-    let bytes : All (λ (x : ℕ). x < 2 ^ 64) (c .before .before .lay2 .last .0) = all-of (c .before .before .lay2 .last .0) 0 (λ i h. c .slice-known4 .given i .fits) in
+    let bytes : Numbers (c .before .before .lay2 .last .0) = all-of (c .before .before .lay2 .last .0) 0 (λ i h. c .slice-known4 .given i .fits) in
     let whole : length ys % 4 ≡ 0 = let e = size q in let w = a .counted .whole-blocks in omega arith in
-    let words : wordsOf (shapeOf ys) ≡ ys = words-shape ys whole (subst (All (λ (x : ℕ). x < 2 ^ 64)) over bytes) in
+    let words : wordsOf (shapeOf ys) ≡ ys = words-shape ys whole (subst Numbers over bytes) in
     (record { accepted = a; final = shapeOf ys; run = rw (front (q .before .before .before .before)) at says; left = over ∙ sym words }, q .run-rounds .ensures .1)
 
 pub run-book-spec : {M : Type 1} → statement M

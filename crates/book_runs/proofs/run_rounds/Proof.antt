@@ -2,7 +2,7 @@
 use mathlib.Core.Path.{_≡_, refl, sym, ap, _∙_, subst}
 use mathlib.Core.Bool.{Bool, true}
 use mathlib.Core.List.{List}
-use Prim.Native.Nat.{ℕ, _+_, _-_, _*_, _/_, _≤_, _<_}
+use Prim.Native.Nat.{ℕ, _+_, _-_, _*_, _≤_, _<_}
 use native.Mathlib.Omega.{arith}
 use borrow.Author.Needs.{needs}
 use borrow.Author.Tests.{not-true, not-false}
@@ -11,26 +11,27 @@ use Rattle.shapes.specs.All.{All}
 use Rattle.shapes.specs.Shape.{Small}
 use Rattle.shapes.specs.Lent.{shapeOf}
 use Rattle.book_runs.specs.Room.{roomOf}
+use Rattle.rules.specs.Rule.{ruleCount}
 use Rattle.books.specs.Rules.{ruleOf}
-use Rattle.book_runs.specs.Code.{Standing, owed, Made}
-use Rattle.book_runs.specs.Runner.{AppliedSays}
+use Rattle.book_runs.specs.Code.{owed, Made}
+use Rattle.book_steps.specs.Step.{Standing, AppliedSays}
 use Rattle.hulls.proofs.Hull.{hull-within}
 use Rattle.shapes.proofs.All.{all-of}
 use Rattle.shapes.proofs.Lent.{small-bases}
-use Rattle.book_runs.proofs.Falls.{within-small}
-use Rattle.book_runs.proofs.Standing.{few-blocks, blocks-size, blocks-sound, standing-next}
+use Rattle.hulls.proofs.Small.{within-small}
+use Rattle.book_steps.proofs.Standing.{few-blocks, blocks-size, blocks-sound, standing-next}
 use Rattle.book_runs.proofs.Made.{made-start, made-most, made-none, made-same, made-changed, made-round, made-stable, made-count, cleared-stays}
 use Rattle.book_runs.proofs.run_rounds.Statement.{statement}
 use Rattle.book_runs.proofs.run_rounds.Tie as tie
 
 abbrev Inv-loop : tie.InvT-loop
 Inv-loop counts numbers₀ rules work₀ n k₀ changed₀ made₀ numbers work k changed made =
-    (n ≡ length rules / 3) × (k ≤ n) × (length numbers ≡ length numbers₀) × Standing counts numbers × All Small (shapeOf numbers)
-    × Made (length rules / 3) (ruleOf counts rules) (shapeOf numbers₀) (shapeOf numbers) k changed made
+    (n ≡ ruleCount rules) × (k ≤ n) × (length numbers ≡ length numbers₀) × Standing counts numbers × All Small (shapeOf numbers)
+    × Made (ruleCount rules) (ruleOf counts rules) (shapeOf numbers₀) (shapeOf numbers) k changed made
     × (work ≡ work₀)
 
 abbrev μ-loop : tie.MeasureT-loop
-μ-loop counts numbers₀ rules work₀ n k₀ changed₀ made₀ numbers work k changed made = 2 * (length rules / 3 * roomOf (shapeOf numbers₀) + length rules / 3 + 1 - made) + owed changed 1
+μ-loop counts numbers₀ rules work₀ n k₀ changed₀ made₀ numbers work k changed made = 2 * (ruleCount rules * roomOf (shapeOf numbers₀) + ruleCount rules + 1 - made) + owed changed 1
 
 clear-requires : tie.Need-clear-requires Inv-loop μ-loop
 clear-requires c κs = c .before .before .before .before .before .pre .room
@@ -89,7 +90,7 @@ enum-told : tie.Need-enum-told Inv-loop μ-loop
 enum-told c = search needs
 
 -- in a turn that applies a rule there is one
-within : (c : tie.After-apply-rule Inv-loop μ-loop) → c .before .before .before .before .loop .k < length (c .before .before .before .before .before .before .before .before .before .before .before .before .before .args .rules .now) / 3
+within : (c : tie.After-apply-rule Inv-loop μ-loop) → c .before .before .before .before .loop .k < ruleCount (c .before .before .before .before .before .before .before .before .before .before .before .before .before .args .rules .now)
 within c = let other = c .before .before .before .if1 .left in let h = c .before .before .before .before .loop .inv .0 in let g = c .before .before .before .before .loop .inv .1 in omega arith
 
 -- and the count is small
@@ -148,7 +149,7 @@ loop-again-2 c =
       r .kept .1 .0 ∙ l .inv .2,
       subst (Standing (s .args .counts .now)) (sym (says .1)) (l .inv .3),
       subst (λ (x : List ℕ). All Small (shapeOf x)) (sym (says .1)) (l .inv .4),
-      subst (λ (x : List ℕ). Made (length (s .args .rules .now) / 3) (ruleOf (s .args .counts .now) (s .args .rules .now)) (shapeOf (s .args .numbers .now)) (shapeOf x) (l .k + 1) (l .changed) (l .made + 1)) (sym (says .1)) (made-same (l .inv .5) small (says .0)),
+      subst (λ (x : List ℕ). Made (ruleCount (s .args .rules .now)) (ruleOf (s .args .counts .now) (s .args .rules .now)) (shapeOf (s .args .numbers .now)) (shapeOf x) (l .k + 1) (l .changed) (l .made + 1)) (sym (says .1)) (made-same (l .inv .5) small (says .0)),
       work-same (c .before .before .before .before .before .before),
     )
 

@@ -4,6 +4,7 @@ use native.Mathlib.Omega.{arith}
 use borrow.Author.Needs.{needs}
 use borrow.Author.Tests.{not-true, not-false}
 use Rattle.shapes.specs.Lent.{shapeOf}
+use Rattle.shapes.proofs.FirstBad.{up-to-first, up-to-all}
 use Rattle.books.specs.Counts.{RightCounts}
 use Rattle.books.specs.Refused.{SoundTexts, RightRules}
 use Rattle.books.specs.Refused.BookRefused.{wrong-counts, wrong-text, wrong-rule, short-work}
@@ -49,14 +50,13 @@ returns-2 c =
     let up = c .before .right-rules in
     let p = c .before .before in
     wrong-rule (counted (p .before .before .before)) (texts p) _
-    (record { before = up .result; place = refl; within = c .if2 .taken; right = up .ensures .right; wrong = up .ensures .wrong (c .if2 .taken) })
-    refl
+    (up-to-first (up .ensures) (c .if2 .taken)) refl
 
 -- past the rules' test every rule is right
 right : (c : tie.Else2)
     → RightRules (c .before .before .before .before .before .before .before .before .before .before .args .counts .now)
     (c .before .before .before .before .before .before .before .before .before .before .args .rules .now)
-right c = record { each = λ j l. c .before .right-rules .ensures .right j (let z = c .if2 .left in omega arith) }
+right c = record { each = up-to-all (c .before .right-rules .ensures) (c .if2 .left) }
 
 returns-3 : tie.Need-returns-3
 returns-3 c =

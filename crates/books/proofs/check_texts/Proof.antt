@@ -7,7 +7,7 @@ use lib.ListN.{length}
 use Rattle.shapes.specs.Lent.{shapeOf, BlocksChecked}
 use Rattle.books.specs.Counts.{shapeIn, SoundText}
 use Rattle.books.specs.Rules.{Names}
-use Rattle.books.proofs.Tell.{SoundBefore, none-before, one-more-text, all-texts}
+use Rattle.books.proofs.Tell.{SoundBefore, none-before, one-more-text, first-text, all-texts}
 use Rattle.books.proofs.check_texts.Statement.{statement}
 use Rattle.books.proofs.check_texts.Tie as tie
 
@@ -33,14 +33,10 @@ enum-known-r c = search needs
 returns : tie.Need-returns Inv-loop μ-loop
 returns c =
     let p = c .before .before .before .before .before in
-    let args = p .before .before .before .args in (
-      p .loop .k,
-      record {
-        named = named (c .before .before .before .before);
-        sound = p .loop .inv .3;
-        refused = subst (BlocksChecked (p .loop .k) (shapeIn (args .counts .now) (shapeOf (args .blocks .now)) (p .loop .k))) (c .before .r .given .1) (c .before .before .before .check-text .ensures);
-      },
-    )
+    let args = p .before .before .before .args in
+    let checked = BlocksChecked (p .loop .k) (shapeIn (args .counts .now) (shapeOf (args .blocks .now)) (p .loop .k)) in
+    let refused = subst checked (c .before .r .given .1) (c .before .before .before .check-text .ensures) in
+    (p .loop .k, first-text _ _ (p .loop .k) (named (c .before .before .before .before)) (p .loop .inv .3) refused)
 
 enum-told : tie.Need-enum-told Inv-loop μ-loop
 enum-told c = search needs

@@ -1,7 +1,6 @@
 -- `books::names`: texts count from 1. Assumes nothing.
 use native.Mathlib.Omega.{arith}
-use Rattle.bases.proofs.Laws.{tells-false}
-use Rattle.books.proofs.Tell.{tells-true}
+use Rattle.bases.proofs.Tells.{tells-true, tells-false}
 use Rattle.books.proofs.names.Statement.{statement}
 use Rattle.books.proofs.names.Tie as tie
 

@@ -4,11 +4,10 @@ use native.Mathlib.Omega.{arith}
 use borrow.Author.Needs.{needs}
 use borrow.Author.Tests.{not-true, not-false}
 use lib.ListN.{length}
-use Rattle.bases.proofs.Laws.{tells-false}
+use Rattle.bases.proofs.Tells.{tells-true, tells-false}
 use Rattle.shapes.specs.All.{All}
 use Rattle.books.specs.Counts.{sumOf, RightCount}
 use Rattle.books.proofs.Sums.{sum-all, sum-small}
-use Rattle.books.proofs.Tell.{tells-true}
 use Rattle.books.proofs.right_counts.Statement.{statement}
 use Rattle.books.proofs.right_counts.Tie as tie
 

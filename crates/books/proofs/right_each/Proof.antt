@@ -5,11 +5,10 @@ use native.Mathlib.Omega.{arith}
 use borrow.Author.Needs.{needs}
 use lib.ListN.{length, take}
 use lib.Seq.{take-all}
-use Rattle.bases.proofs.Laws.{tells-false}
+use Rattle.bases.proofs.Tells.{tells-true, tells-false}
 use Rattle.shapes.specs.All.{All}
 use Rattle.shapes.proofs.All.{all-at, all-one-more}
 use Rattle.books.specs.Counts.{RightCount}
-use Rattle.books.proofs.Tell.{tells-true}
 use Rattle.books.proofs.right_each.Statement.{statement}
 use Rattle.books.proofs.right_each.Tie as tie
 

@@ -2,8 +2,7 @@
 use native.Mathlib.Omega.{arith}
 use borrow.Author.Needs.{needs}
 use borrow.Author.Tests.{not-true, not-false}
-use Rattle.bases.proofs.Laws.{tells-false}
-use Rattle.books.proofs.Tell.{tells-true}
+use Rattle.bases.proofs.Tells.{tells-true, tells-false}
 use Rattle.books.proofs.right_rule.Statement.{statement}
 use Rattle.books.proofs.right_rule.Tie as tie
 

@@ -1,17 +1,17 @@
 -- `books::right_rules`: every rule passed is right. Assumes nothing.
 use mathlib.Core.Path.{_≡_, sym, subst}
-use Prim.Native.Nat.{ℕ, _-_, _/_, _≤_, _<_}
+use Prim.Native.Nat.{ℕ, _-_, _≤_, _<_}
 use native.Mathlib.Omega.{arith}
 use borrow.Author.Count.{below-more}
 use borrow.Author.Needs.{needs}
 use borrow.Author.Tests.{not-true, not-false}
-use lib.ListN.{length}
-use Rattle.books.specs.Rules.{ruleAt, RightRule}
+use Rattle.rules.specs.Rule.{ruleAt, ruleCount}
+use Rattle.books.specs.Rules.{RightRule}
 use Rattle.books.proofs.right_rules.Statement.{statement}
 use Rattle.books.proofs.right_rules.Tie as tie
 
 abbrev Inv-loop : tie.InvT-loop
-Inv-loop counts rules n j₀ j = (n ≡ length rules / 3) × (j ≤ n) × ((i : ℕ) → i < j → RightRule counts (ruleAt rules i))
+Inv-loop counts rules n j₀ j = (n ≡ ruleCount rules) × (j ≤ n) × ((i : ℕ) → i < j → RightRule counts (ruleAt rules i))
 
 abbrev μ-loop : tie.MeasureT-loop
 μ-loop counts rules n j₀ j = n - j
@@ -30,8 +30,8 @@ returns c =
     let p = c .before .before .before .before in
     record {
       within = omega arith;
-      right = p .loop .inv .2;
-      wrong = λ h r. c .before .right-rule .ensures .not-so (not-true _ (c .if1 .taken)) (subst (RightRule _) (sym (c .before .before .rule-at .ensures)) r);
+      good = p .loop .inv .2;
+      bad = λ h r. c .before .right-rule .ensures .not-so (not-true _ (c .if1 .taken)) (subst (RightRule _) (sym (c .before .before .rule-at .ensures)) r);
     }
 
 add-j : tie.Need-add-j Inv-loop μ-loop
@@ -52,7 +52,7 @@ loop-again c =
 returns-2 : tie.Need-returns-2 Inv-loop μ-loop
 returns-2 c =
     let l = c .before .loop in
-    record { within = omega arith; right = λ i h. l .inv .2 i (omega arith); wrong = λ h. absurd (omega arith) }
+    record { within = omega arith; good = λ i h. l .inv .2 i (omega arith); bad = λ h. absurd (omega arith) }
 
 pub right-rules-spec : {M : Type 1} → statement M
 right-rules-spec = tie.close (tie.spec Inv-loop μ-loop loop-holds rule-at-requires right-rule-requires returns add-j loop-less loop-again returns-2)

@@ -20,8 +20,8 @@ within : (c : tie.After-known-told) → c .before .n .given .0 .0 ≤ length (c 
 within c =
     let q = c .before .before .before .before .before in
     let says = subst (RunFile _ _ _) (c .before .n .given .1) (q .run-file .ensures) in
-    let room = says .0 in
-    let short = says .1 .reported .short in
+    let room = says .written .room in
+    let short = says .written .report .reported .short in
     let kept = q .run-file .kept .1 .0 in
     omega arith
 

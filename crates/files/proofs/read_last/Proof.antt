@@ -4,7 +4,7 @@ use Prim.Native.Nat.{ℕ, _*_}
 use native.Mathlib.Omega.{arith}
 use Rattle.book_lines.specs.Book.{RightRule, rulesWord, ruleLine}
 use Rattle.sections.specs.Steps.State.{blocks}
-use Rattle.sections.specs.Parts.{rulesOf}
+use Rattle.rules.specs.Rule.{rulesOf}
 use Rattle.files.specs.declared.Section.the-variants.{Read}
 use Rattle.files.specs.Parts.{SectionRead}
 use Rattle.files.proofs.Whole.{trailing, at-end}

@@ -8,7 +8,8 @@ use Rattle.book_lines.proofs.Read.{rest-of}
 use Rattle.book_lines.specs.Book.{RightRule, headLine, rulesWord, ruleLine}
 use Rattle.sections.specs.Steps.{DepartsFrom}
 use Rattle.sections.specs.Steps.State.{rules}
-use Rattle.sections.specs.Parts.{LineIs, LinesAre, LinesRead, HeadAt, rulesOf}
+use Rattle.rules.specs.Rule.{rulesOf}
+use Rattle.sections.specs.Parts.{LineIs, LinesAre, LinesRead, HeadAt}
 use Rattle.sections.proofs.Newline.{rules-without}
 use Rattle.files.proofs.Sections.{rules-head, head-stops, section-stops, section-is}
 use borrow.Author.Needs.{needs}

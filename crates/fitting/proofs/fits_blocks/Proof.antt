@@ -5,7 +5,7 @@ use Prim.Native.Nat.{ℕ, _+_, _-_, _/_, _≤_}
 use native.Mathlib.Omega.{arith}
 use borrow.Author.Needs.{needs, zero≤}
 use lib.ListN.{length, drop}
-use Rattle.bases.proofs.Laws.{tells-bit}
+use Rattle.bases.proofs.Tells.{tells-bit}
 use Rattle.shapes.specs.Shape.{Block, Sound}
 use Rattle.shapes.specs.Lent.{shapeOf, meant}
 use Rattle.shapes.proofs.Lent.{shape-from, none-left, block-sound}

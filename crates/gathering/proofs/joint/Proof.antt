@@ -1,7 +1,7 @@
 -- `gathering::joint`: one cell, then the other. Assumes nothing.
 use mathlib.Core.Path.{sym, _∙_}
 use native.Mathlib.Omega.{arith}
-use Rattle.bases.proofs.Laws.{tells-false}
+use Rattle.bases.proofs.Tells.{tells-false}
 use Rattle.tables.proofs.Finish.{tells-then}
 use Rattle.gathering.proofs.Side.{tells-map}
 use borrow.Author.Needs.{needs}

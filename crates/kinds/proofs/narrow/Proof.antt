@@ -26,7 +26,7 @@ accepted c =
 narrow-accepted-requires : tie.Need-narrow-accepted-requires
 narrow-accepted-requires c κs =
     let ok = accepted (c .before .before .before) in
-    ok
+    (c .before .before .before .before .before .before .before .before .before .before .before .pre, ok)
 
 same-length : tie.Need-same-length
 same-length c = search needs

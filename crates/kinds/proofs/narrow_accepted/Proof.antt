@@ -7,7 +7,7 @@ use Rattle.kinds.proofs.narrow_accepted.Tie as tie
 narrow-equal-requires : tie.Need-narrow-equal-requires
 narrow-equal-requires c κs =
     let p = c .before .before .before .before .before .before .before .before .before .pre in
-    (whole (p .0 .first), (whole (p .0 .second), p .1))
+    (whole (p .1 .0 .first), (whole (p .1 .0 .second), p .1 .1))
 
 same-length : tie.Need-same-length
 same-length c = search needs
@@ -26,7 +26,7 @@ returns c =
 narrow-order-requires : tie.Need-narrow-order-requires
 narrow-order-requires c κs =
     let p = c .before .before .before .before .before .before .before .before .before .pre in
-    (p .0 .first, (p .0 .second, p .1))
+    (p .1 .0 .first, (p .1 .0 .second, p .1 .1))
 
 same-length-4 : tie.Need-same-length-4
 same-length-4 c = search needs
@@ -40,7 +40,7 @@ same-length-6 c = search needs
 returns-2 : tie.Need-returns-2
 returns-2 c =
     let n = c .before .before .before .before .before .before in
-    by-order _ (n .before .before .before .before .if1 .left) (n .narrow-order .ensures .0) (n .narrow-order .ensures .1)
+    by-order _ (n .before .before .before .before .before .before .before .before .before .before .pre .0) (n .before .before .before .before .if1 .left) (n .narrow-order .ensures .0) (n .narrow-order .ensures .1)
 
 pub narrow-accepted-spec : {M : Type 1} → statement M
 narrow-accepted-spec =

@@ -1,9 +1,8 @@
 -- `lengths::can_be_empty`: no position of the other shape before j will do. Assumes nothing.
 use Prim.Native.Nat.{ℕ, _+_, _-_, _≤_, _<_}
 use native.Mathlib.Omega.{arith}
-use Rattle.bases.proofs.Laws.{tells-false}
+use Rattle.bases.proofs.Tells.{tells-true, tells-false}
 use Rattle.gathering.specs.Side.{lookAt, Joint}
-use Rattle.gathering.proofs.Side.{tells-true}
 use Rattle.lengths.proofs.Length.{none-more}
 use borrow.Author.Needs.{needs}
 use Rattle.lengths.proofs.can_be_empty.Statement.{statement}

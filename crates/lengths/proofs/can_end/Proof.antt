@@ -3,11 +3,10 @@ use mathlib.Core.Path.{sym}
 use mathlib.Core.List.{[], _∷_}
 use Prim.Native.Nat.{ℕ, _+_, _-_, _≤_, _<_}
 use native.Mathlib.Omega.{arith}
+use Rattle.bases.proofs.Tells.{tells-true, tells-false}
 use Rattle.bases.specs.Base.{Meets, baseOf}
-use Rattle.bases.proofs.Laws.{tells-false}
 use Rattle.shapes.specs.Lent.{blockAt}
 use Rattle.gathering.specs.Side.{lookAt, Joint}
-use Rattle.gathering.proofs.Side.{tells-true}
 use Rattle.lengths.proofs.Length.{none-more, meets-base}
 use borrow.Author.Needs.{needs}
 use Rattle.lengths.proofs.can_end.Statement.{statement}

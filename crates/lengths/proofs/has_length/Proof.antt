@@ -1,6 +1,6 @@
 -- `lengths::has_length`: no character, or the last one. Assumes nothing.
 use native.Mathlib.Omega.{arith}
-use Rattle.bases.proofs.Laws.{tells-false}
+use Rattle.bases.proofs.Tells.{tells-false}
 use Rattle.lengths.specs.Length.{empty}
 use Rattle.gathering.proofs.Side.{tells-map}
 use Rattle.lengths.proofs.Length.{length-zero, length-filled, length-of-filled}

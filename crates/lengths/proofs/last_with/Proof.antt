@@ -1,6 +1,6 @@
 -- `lengths::last_with`: whether the bases meet, then the cells. Assumes nothing.
 use borrow.Author.Tests.{not-true, not-false}
-use Rattle.bases.proofs.Laws.{tells-false}
+use Rattle.bases.proofs.Tells.{tells-false}
 use Rattle.gathering.proofs.Side.{tells-map}
 use borrow.Author.Needs.{needs}
 use Rattle.lengths.proofs.last_with.Statement.{statement}

@@ -8,8 +8,9 @@ use lib.Seq.{length-take-le}
 use borrow.Author.Needs.{needs}
 use Rattle.book_lines.proofs.Read.{rest-of}
 use Rattle.book_lines.specs.Book.{RightRule, ruleLine}
-use Rattle.book_lines.specs.Lines.{ruleOf}
-use Rattle.sections.specs.Parts.{LineIs, LineIsNone, LinesAre, RuleHere, rulesOf}
+use Rattle.rules.specs.Rule.{ruleOf}
+use Rattle.rules.specs.Rule.{rulesOf}
+use Rattle.sections.specs.Parts.{LineIs, LineIsNone, LinesAre, RuleHere}
 use Rattle.sections.proofs.Steps.{rules-kind}
 use Rattle.sections.proofs.Parts.{lines-none, lines-more, lines-stop, Stored, stored-none, stored-more, rules-more}
 use Rattle.sections.proofs.read_rules.Statement.{statement}

@@ -6,7 +6,8 @@ use Rattle.shapes.specs.All.{All}
 use Rattle.shapes.specs.Shape.{Sound}
 use Rattle.shapes.specs.Lent.{shapeOf}
 use Rattle.shapes.specs.Lent.BlocksRefused.{unsound, too-long}
-use Rattle.shapes.proofs.Lent.{all-sound, shape-length, sound-total}
+use Rattle.shapes.proofs.FirstBad.{up-to-first, up-to-all}
+use Rattle.shapes.proofs.Lent.{first-unsound, all-sound, shape-length, sound-total}
 use Rattle.shapes.proofs.check_blocks.Statement.{statement}
 use Rattle.shapes.proofs.check_blocks.Tie as tie
 
@@ -18,21 +19,11 @@ add-t8 c = search needs
 
 returns : tie.Need-returns
 returns c =
-    let good = c .before .sound-blocks in
-    let e = shape-length (c .before .before .before .args .shape .now) in
-    unsound _
-    (record {
-      before = good .result;
-      place = refl;
-      within = let h = c .if1 .taken in omega arith;
-      sound = good .ensures .sound;
-      unsound = good .ensures .unsound (c .if1 .taken);
-    })
-    refl
+    unsound _ (first-unsound _ (up-to-first (c .before .sound-blocks .ensures) (c .if1 .taken))) refl
 
 -- where no block is refused, all are sound
 sound : (c : tie.Else1) → All Sound (shapeOf (c .before .before .before .args .shape .now))
-sound c = all-sound _ (c .before .sound-blocks .result) (c .if1 .left) (c .before .sound-blocks .ensures .sound)
+sound c = all-sound _ (up-to-all (c .before .sound-blocks .ensures) (c .if1 .left))
 
 total-upper-requires : tie.Need-total-upper-requires
 total-upper-requires c κs = let t = sound-total (sound c) in let l = shape-length (c .before .before .before .args .shape .now) in let f = c .before .before .before .pre in omega arith

@@ -2,7 +2,7 @@
 use native.Mathlib.Omega.{arith}
 use borrow.Author.Needs.{needs}
 use borrow.Author.Tests.{not-true, not-false, eqb-true, eqb-false}
-use Rattle.bases.proofs.Laws.{tells-false}
+use Rattle.bases.proofs.Tells.{tells-false}
 use Rattle.shapes.proofs.is_sound.Statement.{statement}
 use Rattle.shapes.proofs.is_sound.Tie as tie
 

@@ -1,5 +1,5 @@
 -- `side_cells::parts_here`: the mark, then the bases. Assumes nothing.
-use Rattle.bases.proofs.Laws.{tells-false}
+use Rattle.bases.proofs.Tells.{tells-false}
 use Rattle.side_cells.proofs.Cells.{tells-and}
 use borrow.Author.Needs.{needs}
 use Rattle.side_cells.proofs.parts_here.Statement.{statement}

@@ -1,6 +1,6 @@
 -- `side_cells::stays_here`: the mark, the cell further on, then the bases. Assumes nothing.
 use native.Mathlib.Omega.{arith}
-use Rattle.bases.proofs.Laws.{tells-false}
+use Rattle.bases.proofs.Tells.{tells-false}
 use Rattle.side_cells.proofs.Cells.{tells-and-two}
 use borrow.Author.Needs.{needs}
 use Rattle.side_cells.proofs.stays_here.Statement.{statement}

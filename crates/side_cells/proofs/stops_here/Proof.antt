@@ -1,5 +1,5 @@
 -- `side_cells::stops_here`: the mark, then the cell further on. Assumes nothing.
-use Rattle.bases.proofs.Laws.{tells-false}
+use Rattle.bases.proofs.Tells.{tells-false}
 use Rattle.tables.proofs.Finish.{tells-then}
 use borrow.Author.Needs.{needs}
 use Rattle.side_cells.proofs.stops_here.Statement.{statement}

@@ -2,8 +2,8 @@
 use Prim.Native.Nat.{_<_}
 use native.Mathlib.Omega.{arith}
 use borrow.Author.Tests.{not-true, not-false}
+use Rattle.bases.proofs.Tells.{tells-false}
 use Rattle.bases.specs.Base.{Meets}
-use Rattle.bases.proofs.Laws.{tells-false}
 use Rattle.shapes.specs.Lent.{meant}
 use Rattle.tables.proofs.Finish.{tells-then}
 use borrow.Author.Needs.{needs}

@@ -1,7 +1,7 @@
 -- `tables::first_ends`: whether the run may end, and the cell where it ends. Assumes nothing.
 use Prim.Native.Nat.{_+_, _≤_}
 use native.Mathlib.Omega.{arith}
-use Rattle.bases.proofs.Laws.{tells-false}
+use Rattle.bases.proofs.Tells.{tells-false}
 use Rattle.tables.proofs.Finish.{tells-then}
 use Rattle.tables.proofs.first_ends.Statement.{statement}
 use Rattle.tables.proofs.first_ends.Tie as tie

@@ -1,0 +1,2 @@
+-- One application of a rule to the numbers so far.
+pub mod Step

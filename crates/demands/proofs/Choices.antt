@@ -1,0 +1,110 @@
+-- A choice of texts is a choice of runs, and back: so no choice of texts that satisfies the whole book is lost. Assumes nothing.
+use mathlib.Core.Path.{_≡_, refl, sym, ap, ap₂, _∙_, subst, subst₂}
+use mathlib.Core.List.{List, [], _∷_, _++_}
+use Prim.Native.Nat.{ℕ, zero, suc, _+_, _-_, _≤_, _<_}
+use native.Mathlib.Omega.{arith}
+use lib.ListN.{length, getD, take, drop, length-drop, take-append-drop}
+use lib.Seq.{take-at, drop-at, drop-drop, drop-append-add, length-take-le}
+use Rattle.shapes.specs.All.{All}
+use Rattle.shapes.specs.Shape.{Block, Filling, done, textOf, Fits}
+use Rattle.shapes.specs.Lent.{Numbers, shapeOf}
+use Rattle.hulls.specs.Hull.{none as in-none, shapes}
+use Rattle.hulls.proofs.Fill.{filling-size, join, split-first, split-second}
+use Rattle.hulls.proofs.Runs.{none-lost}
+use Rattle.texts.specs.Kind.{relationOf}
+use Rattle.books.specs.Counts.{sumOf, RightCount, countOf, firstOf, shapeIn}
+use Rattle.rules.specs.Rule.{ruleAt, ruleCount}
+use Rattle.books.specs.Rules.{Names, ruleOf}
+use Rattle.books.specs.Refused.{RightRules}
+use Rattle.books.proofs.Sums.{text-within}
+use Rattle.book_steps.specs.Step.{Standing}
+use Rattle.book_steps.proofs.Standing.{blocks-size, text-shape}
+use Rattle.demands.specs.Calls.{Ending, none, numbers, Calls, Choice}
+use Rattle.demands.proofs.Sequences.{outcomeOf, calls-run, calls-end, Ended}
+
+-- a part of a filling fills the part
+pub part-filling : (m n : ℕ) {S : List Block} {f : List (List ℕ)} → m + n ≤ length S → Filling S f → Filling (take n (drop m S)) (take n (drop m f))
+part-filling m n {S} {f} h x =
+    let front : length (take m S) ≡ m = length-take-le m S (omega arith) in
+    let rest : Filling (drop m S) (drop m f) =
+    subst (λ (k : ℕ). Filling (drop m S) (drop k f)) front (split-second (take m S) (drop m S) (subst (λ (B : List Block). Filling B f) (sym (take-append-drop m S)) x)) in
+    let size : length (take n (drop m S)) ≡ n = length-take-le n (drop m S) (let e = length-drop m S in omega arith) in
+    subst (λ (k : ℕ). Filling (take n (drop m S)) (take k (drop m f))) size
+    (split-first (take n (drop m S)) (drop n (drop m S)) (subst (λ (B : List Block). Filling B (drop m f)) (sym (take-append-drop n (drop m S))) rest))
+
+-- fillings of all texts' shapes, joined
+assemble : (counts : List ℕ) (S : List Block) (text : ℕ → List ℕ) → length S ≡ sumOf counts
+    → ((i : ℕ) → i < length counts → Fits (take (getD counts i 0) (drop (sumOf (take i counts)) S)) (text i))
+    → (f : List (List ℕ)) × Filling S f × ((i : ℕ) → i < length counts → textOf (take (getD counts i 0) (drop (sumOf (take i counts)) f)) ≡ text i)
+unfolding sumOf
+assemble [] [] text e h = ([], done, λ i l. absurd (omega arith))
+assemble [] (b ∷ S) text e h = absurd (omega arith)
+assemble (c ∷ cs) S text e h =
+    let one = h 0 (omega arith) in
+    let others = assemble cs (drop c S) (λ i. text (suc i)) (length-drop c S ∙ omega arith)
+    (λ i l. subst (λ (B : List Block). Fits (take (getD cs i 0) B) (text (suc i))) (sym (drop-drop (sumOf (take i cs)) c S)) (h (suc i) (omega arith))) in
+    let size : length (one .runs) ≡ c = filling-size (one .filling) ∙ length-take-le c S (omega arith) in (
+      one .runs ++ others .0,
+      subst (λ (B : List Block). Filling B (one .runs ++ others .0)) (take-append-drop c S) (join (one .filling) (others .1)),
+      texts (one .runs) (others .0) size (one .joined) (others .2),
+    )
+  where
+    texts : (f g : List (List ℕ)) → length f ≡ c → textOf f ≡ text 0 → ((i : ℕ) → i < length cs → textOf (take (getD cs i 0) (drop (sumOf (take i cs)) g)) ≡ text (suc i))
+        → (i : ℕ) → i < suc (length cs) → textOf (take (getD (c ∷ cs) i 0) (drop (sumOf (take i (c ∷ cs))) (f ++ g))) ≡ text i
+    texts f g size p q zero l = ap textOf (take-at f g c size) ∙ p
+    texts f g size p q (suc i) l =
+        ap (λ (r : List (List ℕ)). textOf (take (getD cs i 0) r)) (ap (λ (k : ℕ). drop (k + sumOf (take i cs)) (f ++ g)) (sym size) ∙ drop-append-add f g (sumOf (take i cs)))
+        ∙ q i (omega arith)
+
+module _ {counts rules : List ℕ} (right : RightRules counts rules) {xs : List ℕ} (d : Standing counts xs) {text : ℕ → List ℕ} where
+  -- a choice of texts as one of runs
+  runs-of : Choice counts rules xs text
+      → (f : List (List ℕ)) × Filling (shapeOf xs) f × ((k : ℕ) → Names counts k → textOf (take (countOf counts k) (drop (firstOf counts k) f)) ≡ text k)
+  runs-of c =
+      let all = assemble counts (shapeOf xs) (λ i. text (suc i)) (blocks-size d)
+      (λ i l. let back : suc i - 1 ≡ i = omega arith in
+      subst (λ (j : ℕ). Fits (take (getD counts j 0) (drop (sumOf (take j counts)) (shapeOf xs))) (text (suc i))) back
+      (subst (λ (B : List Block). Fits B (text (suc i))) (text-shape d (suc i)) (c .fits (suc i) (record { from-one = omega arith; within = omega arith })))) in
+      (all .0, all .1, λ k n. named k (all .0) (all .2) n)
+    where
+      named : (k : ℕ) (f : List (List ℕ)) → ((i : ℕ) → i < length counts → textOf (take (getD counts i 0) (drop (sumOf (take i counts)) f)) ≡ text (suc i))
+          → Names counts k → textOf (take (countOf counts k) (drop (firstOf counts k) f)) ≡ text k
+      named k f h n =
+          let one = n .from-one in
+          let last = n .within in
+          let back : suc (k - 1) ≡ k = omega arith in
+          h (k - 1) (omega arith) ∙ ap text back
+
+  -- what it keeps as texts it keeps as runs
+  keeps-of : (c : Choice counts rules xs text) (j : ℕ) → j < ruleCount rules → ruleOf counts rules j (runs-of c .0)
+  keeps-of c j l =
+      let t = ruleAt rules j in
+      let r = right .each j l in
+      subst₂ (relationOf (t .kind)) (sym (runs-of c .2 (t .a) (r .first))) (sym (runs-of c .2 (t .b) (r .second))) (c .keeps j l)
+
+  -- and where the runs fill other numbers, the texts fit them
+  choice-again : (c : Choice counts rules xs text) {zs : List ℕ} → Standing counts zs → Filling (shapeOf zs) (runs-of c .0) → Choice counts rules zs text
+  choice-again c {zs} s x = record {
+    fits = λ k n. record {
+      runs = take (countOf counts k) (drop (firstOf counts k) (runs-of c .0));
+      filling =
+          let w = text-within counts k (n .from-one) in
+          let e = blocks-size s in
+          subst (λ (B : List Block). Filling B (take (countOf counts k) (drop (firstOf counts k) (runs-of c .0)))) (sym (text-shape s k))
+          (part-filling (firstOf counts k) (countOf counts k) (omega arith) x);
+      joined = runs-of c .2 k n;
+    };
+    keeps = c .keeps;
+  }
+
+  pub choice-kept : All RightCount counts → Numbers xs → {js : List ℕ} {e : Ending} → Calls counts rules xs js e → Choice counts rules xs text
+      → (zs : List ℕ) × (e ≡ numbers zs) × Choice counts rules zs text
+  unfolding Ended outcomeOf
+  choice-kept each w {e = e} r c = go e (calls-end each right d w r) (none-lost (runs-of c .1) (keeps-of c) (calls-run each right d r))
+    where
+      go : (e : Ending) → Ended counts rules e → (H : List Block) × (outcomeOf e ≡ shapes H) × Filling H (runs-of c .0) → (zs : List ℕ) × (e ≡ numbers zs) × Choice counts rules zs text
+      go none p h = absurd (let q : in-none ≡ shapes (h .0) = h .1 in let z : _≡_ {A = ℕ} 0 1 = cc in omega arith)
+      go (numbers zs) p h =
+          let q : shapes (shapeOf zs) ≡ shapes (h .0) = h .1 in
+          let same : h .0 ≡ shapeOf zs = cc in
+          (zs, refl, choice-again c (p .0) (subst (λ (B : List Block). Filling B (runs-of c .0)) same (h .2)))

@@ -1,0 +1,118 @@
+-- The user's three demands hold: each field by citation. Assumes nothing.
+use mathlib.Core.Path.{_≡_, refl, sym, ap, _∙_, subst, subst₂}
+use mathlib.Core.List.{List, _++_}
+use Prim.Native.Nat.{ℕ}
+use lib.ListN.{length, take, drop, length-append}
+use lib.Seq.{take-at}
+use native.Mathlib.Omega.{arith}
+use Rattle.answers.specs.declared.Narrowed.{Narrowed}
+use Rattle.answers.specs.declared.Written.{Written}
+use Rattle.extremes.specs.declared.Direction.{Direction}
+use Rattle.extremes.specs.declared.Direction.the-variants.{Least, Greatest}
+use Rattle.extremes.specs.Extreme.{ExtremePromise, NoFurther, Extreme}
+use Rattle.extremes.specs.Steps.{extreme}
+use Rattle.shapes.specs.Shape.{Block, Fits}
+use Rattle.shapes.specs.Lent.{shapeOf}
+use Rattle.texts.specs.Order.{AtMost, Before}
+use Rattle.pairs.specs.Narrow.{NarrowPromise}
+use Rattle.pair_calls.proofs.Sweeping.{sweep-determined}
+use Rattle.books.specs.Refused.{BookAccepted}
+use Rattle.book_runs.proofs.Determined.{run-determined}
+use Rattle.book_steps.proofs.Standing.{standing-first}
+use Rattle.file_runs.proofs.Determined.{run-file-determined}
+use Rattle.dashed.proofs.Determined.{check-shape-determined, fits-determined, earlier-determined, extreme-determined}
+use Rattle.demands.specs.Demands.{Demand1, Demand2, Demand3, Exact, KeepsExactly}
+use Rattle.demands.proofs.Refusals.{check-shape-refuses, fits-refuses, text-refuses, sweep-refuses, narrowing-refuses, run-book-refuses, run-file-refuses}
+use Rattle.demands.proofs.Exact.{none-texts, some-texts, keeps-exactly, written-shape}
+use Rattle.demands.proofs.Sequences.{alone-stable, stable-alone, calls-agree, permuted-agree, calls-widest, calls-none, runner-stable, runner-none}
+use Rattle.demands.proofs.Choices.{choice-kept}
+
+pub demand-1 : Demand1
+demand-1 = record {
+  check-shape = check-shape-refuses;
+  fits = fits-refuses;
+  least = text-refuses Least;
+  greatest = text-refuses Greatest;
+  sweep = sweep-refuses;
+  run-book = run-book-refuses;
+  run-file = run-file-refuses;
+  least-untouched = λ xs out out′ q p. p .1;
+  greatest-untouched = λ xs out out′ q p. p .1;
+  sweep-untouched = λ xs ys out out′ q p. p .1;
+  book-untouched = λ counts blocks rules work blocks′ work′ q p. (p .1, p .2);
+  file-untouched = λ file report report′ q p. p .1;
+  equal = narrowing-refuses (λ t u. t ≡ u);
+  at-most = narrowing-refuses AtMost;
+  before = narrowing-refuses Before;
+  check-shape-one = check-shape-determined;
+  fits-one = fits-determined;
+  earlier-one = earlier-determined;
+  least-one = extreme-determined Least;
+  greatest-one = extreme-determined Greatest;
+  sweep-one = λ xs ys out out′ out″ r s p q. sweep-determined xs ys out out′ out″ r s p q;
+  run-book-one = run-determined;
+  run-file-one = run-file-determined;
+}
+
+-- ---- demand 2
+
+exact : (R : List ℕ → List ℕ → Type 0) → Exact R (NarrowPromise R)
+exact R = record {
+  none-sound = λ {xs} {ys} p. none-texts R (shapeOf xs) (shapeOf ys) (p .1 .none);
+  none-complete = λ {xs} {ys} p. some-texts R (shapeOf xs) (shapeOf ys) (p .1 .hull);
+  keeps = λ {xs} {ys} {work} {ox} {oy} {work′} {ox′} {oy′} p.
+      let n = p .1 in
+      let second : length (n .second) ≡ length (shapeOf ys) =
+      let a = length-append (n .first) (n .second) in
+      let b = length-append (shapeOf xs) (shapeOf ys) in
+      let c = n .hull .size in
+      let e = n .size in
+      omega arith in
+      subst₂ (KeepsExactly R (shapeOf xs) (shapeOf ys))
+      (sym (written-shape (p .0 .shapes .first) (n .first) (drop (length xs) ox) ox′ (n .size) (n .first-output)))
+      (sym (written-shape (p .0 .shapes .second) (n .second) (drop (length ys) oy) oy′ second (n .second-output)))
+      (keeps-exactly R (shapeOf xs) (shapeOf ys) (n .first) (n .second) (n .size) (n .hull));
+}
+
+-- the text at the start of the output
+written : (d : Direction) {xs out out′ : List ℕ} (n : ℕ) → ExtremePromise d xs out out′ (Written.Text n) → take n out′ ≡ extreme d (shapeOf xs)
+written d {out} n p = ap (take n) (p .bytes) ∙ take-at _ (drop n out) n (sym (p .length-is))
+
+meant : (d : Direction) {xs out out′ : List ℕ} (n : ℕ) → ExtremePromise d xs out out′ (Written.Text n) → Extreme d (shapeOf xs) (take n out′)
+meant d n p = subst (Extreme d _) (sym (written d n p)) (p .meaning)
+
+at-most-all : {t u : List ℕ} → NoFurther Least t u → AtMost t u
+at-most-all (NoFurther.at-most h) = h
+
+at-least-all : {t u : List ℕ} → NoFurther Greatest t u → AtMost u t
+at-least-all (NoFurther.at-least h) = h
+
+pub demand-2 : Demand2
+demand-2 = record {
+  fits-yes = λ xs t p. p .1;
+  fits-no = λ xs t p. p .1;
+  least = λ n p. let m = meant Least n p in (m .fits, λ u f. at-most-all (m .first u f));
+  greatest = λ n p. let m = meant Greatest n p in (m .fits, λ u f. at-least-all (m .first u f));
+  equal = exact (λ t u. t ≡ u);
+  at-most = exact AtMost;
+  before = exact Before;
+  sweep-places = λ k p. (p .answer, p .output);
+  sweep-cannot = λ k p. (p .answer, p .output);
+  cannot-sound = λ k p. p .meaning .none k refl;
+}
+
+-- ---- demand 3
+
+pub demand-3 : Demand3
+demand-3 = record {
+  agree = λ a w r s. calls-agree (a .counted .each) (a .right) (standing-first a) w r s;
+  runner-stable = λ m w p r. let a = p .0 .accepted in calls-agree (a .counted .each) (a .right) (standing-first a) w r (runner-stable w (p .0) .1);
+  runner-none = λ m w p r. let a = p .0 .accepted in calls-agree (a .counted .each) (a .right) (standing-first a) w r (runner-none w (p .0) .1);
+  runner-calls-stable = λ m w p. runner-stable w (p .0);
+  runner-calls-none = λ m w p. runner-none w (p .0);
+  permuted = λ a b w to from r s. permuted-agree a b w to from r s;
+  widest = λ a w r. calls-widest (a .counted .each) (a .right) (standing-first a) w r;
+  none-wide = λ a r. calls-none (a .counted .each) (a .right) (standing-first a) r;
+  stable-left = λ a d w. (stable-alone (a .counted .each) (a .right) d w, alone-stable (a .counted .each) (a .right) d);
+  none-lost = λ a w r c. choice-kept (a .right) (standing-first a) (a .counted .each) w r c;
+}

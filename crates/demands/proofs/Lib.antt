@@ -1,0 +1,7 @@
+-- The demands, proved by citation.
+pub mod Calls
+pub mod Sequences
+pub mod Choices
+pub mod Exact
+pub mod Refusals
+pub mod Demands

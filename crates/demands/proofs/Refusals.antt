@@ -1,0 +1,125 @@
+-- What is acceptable is not refused, and what is not is, duly; a call's promise says what it leaves after a refusal. Assumes nothing.
+use mathlib.Core.Path.{_≡_, refl, sym, ap, _∙_}
+use mathlib.Core.List.{List}
+use mathlib.Core.Logic.{_⊎_, inl, inr}
+use Prim.Native.Nat.{ℕ, _*_, _≤_}
+use native.Mathlib.Omega.{arith}
+use lib.ListN.{length}
+use Rattle.answers.specs.Told.{Told, told}
+use Rattle.answers.specs.declared.Refusal.{Refusal}
+use Rattle.answers.specs.declared.Checked.{Checked}
+use Rattle.answers.specs.declared.Fit.{Fit}
+use Rattle.answers.specs.declared.Narrowed.{Narrowed}
+use Rattle.answers.specs.declared.Ran.{Ran}
+use Rattle.answers.specs.declared.Swept.{Swept}
+use Rattle.answers.specs.declared.Written.{Written}
+use Rattle.shapes.specs.Lent.{shapeOf, Accepted, ShapeRefused}
+use Rattle.shapes.proofs.Refused.{shape-one, shape-not}
+use Rattle.extremes.specs.declared.Direction.{Direction}
+use Rattle.extremes.specs.Extreme.{ExtremePromise}
+use Rattle.pairs.specs.Pair.{PairAccepted, Room, NarrowRefused}
+use Rattle.pairs.specs.Narrow.{NarrowPromise}
+use Rattle.pairs.proofs.Pair.{narrow-one, narrow-not}
+use Rattle.pairs.proofs.Determined.{Outcome, narrow-determined}
+use Rattle.pair_calls.specs.Sweep.{SweepRefused}
+use Rattle.pair_calls.proofs.Sweeping.{one-refusal, not-due}
+use Rattle.books.specs.Refused.{BookAccepted, BookRefused}
+use Rattle.books.proofs.Refused.{book-one, book-not}
+use Rattle.file_runs.specs.Promise.{RunRefused}
+use Rattle.file_runs.proofs.Determined.{run-refused-one, run-file-not}
+use Rattle.dashed.specs.Promises.{CheckShape, FitsShape, Sweep, RunBook, RunFile}
+use Rattle.demands.specs.Demands.{Refuses, TextRefused, FileAcceptable, NarrowingRefuses}
+
+pub check-shape-refuses : (xs : List ℕ) → Refuses Checked.Refused (CheckShape xs) (Accepted xs) (ShapeRefused 1 xs)
+check-shape-refuses xs = record { acceptable = λ a q p. shape-not p a; malformed = malformed; one = λ t u p q. shape-one p q }
+  where
+    malformed : (Accepted xs → ⊥) → (r : Checked) → CheckShape xs r → (q : Refusal) × (r ≡ Checked.Refused q) × ShapeRefused 1 xs (told q)
+    malformed n Checked.Sound p = absurd (n p)
+    malformed n (Checked.Refused q) p = (q, refl, p)
+
+pub fits-refuses : (xs t : List ℕ) → Refuses Fit.Refused (FitsShape xs t) (Accepted xs) (ShapeRefused 1 xs)
+fits-refuses xs t = record { acceptable = λ a q p. shape-not p a; malformed = malformed; one = λ t u p q. shape-one p q }
+  where
+    malformed : (Accepted xs → ⊥) → (r : Fit) → FitsShape xs t r → (q : Refusal) × (r ≡ Fit.Refused q) × ShapeRefused 1 xs (told q)
+    malformed n Fit.Fits p = absurd (n (p .0))
+    malformed n Fit.Unfit p = absurd (n (p .0))
+    malformed n (Fit.Refused q) p = (q, refl, p)
+
+-- ---- least and greatest text
+
+text-one : (xs out : List ℕ) (t u : Told) → TextRefused xs out t → TextRefused xs out u → t ≡ u
+text-one xs out t u (inl p) (inl q) = shape-one p q
+text-one xs out t u (inl p) (inr q) = absurd (shape-not p (q .0))
+text-one xs out t u (inr p) (inl q) = absurd (shape-not q (p .0))
+text-one xs out t u (inr p) (inr q) = p .2 ∙ sym (q .2)
+
+text-not : (xs out : List ℕ) (t : Told) → Accepted xs × (250 ≤ length out) → TextRefused xs out t → ⊥
+text-not xs out t a (inl p) = shape-not p (a .0)
+text-not xs out t a (inr p) = let h = a .1 in let g = p .1 in omega arith
+
+pub text-refuses : (d : Direction) (xs out out′ : List ℕ) → Refuses Written.Refused (ExtremePromise d xs out out′) (Accepted xs × (250 ≤ length out)) (TextRefused xs out)
+text-refuses d xs out out′ = record { acceptable = λ a q p. text-not xs out (told q) a (p .0); malformed = malformed; one = text-one xs out }
+  where
+    malformed : (Accepted xs × (250 ≤ length out) → ⊥) → (r : Written) → ExtremePromise d xs out out′ r → (q : Refusal) × (r ≡ Written.Refused q) × TextRefused xs out (told q)
+    malformed n (Written.Text m) p = absurd (n (p .accepted, p .room))
+    malformed n (Written.Refused q) p = (q, refl, p .0)
+
+-- ---- the sweep, narrowing, a book
+
+pub sweep-refuses : (xs ys out out′ : List ℕ)
+    → Refuses Swept.Refused (Sweep xs ys out out′) (PairAccepted xs ys × (2 * length (shapeOf xs) ≤ length out)) (SweepRefused xs ys (length out))
+sweep-refuses xs ys out out′ = record {
+  acceptable = λ a q p. not-due xs ys out (p .0) (a .0) (a .1);
+  malformed = malformed;
+  one = λ t u p q. one-refusal xs ys out p q;
+}
+  where
+    malformed : (PairAccepted xs ys × (2 * length (shapeOf xs) ≤ length out) → ⊥) → (r : Swept) → Sweep xs ys out out′ r
+        → (q : Refusal) × (r ≡ Swept.Refused q) × SweepRefused xs ys (length out) (told q)
+    malformed n (Swept.Places k) p = absurd (n (p .accepted, p .room))
+    malformed n (Swept.Cannot k) p = absurd (n (p .accepted, p .room))
+    malformed n (Swept.Refused q) p = (q, refl, p .0)
+
+pub narrowing-refuses : (R : List ℕ → List ℕ → Type 0) → NarrowingRefuses (NarrowPromise R)
+narrowing-refuses R = record {
+  refuses = λ xs ys work ox oy work′ ox′ oy′. record {
+    acceptable = λ a q p. narrow-not (p .0) (a .0) (a .1);
+    malformed = malformed xs ys work ox oy work′ ox′ oy′;
+    one = λ t u p q. narrow-one p q;
+  };
+  untouched = λ xs ys work ox oy work′ ox′ oy′ q p. (p .1 .work-kept, p .1 .first-kept, p .1 .second-kept);
+  determined = λ xs ys work ox oy work′ ox′ oy′ work″ ox″ oy″ r s p q.
+      let same = narrow-determined R xs ys work ox oy
+      (record { work = work′; first = ox′; second = oy′; answer = r }) (record { work = work″; first = ox″; second = oy″; answer = s }) p q in
+      (ap (λ (o : Outcome). o .answer) same, ap (λ (o : Outcome). o .work) same, ap (λ (o : Outcome). o .first) same, ap (λ (o : Outcome). o .second) same);
+}
+  where
+    malformed : (xs ys work ox oy work′ ox′ oy′ : List ℕ) → (PairAccepted xs ys × Room xs ys (length work) (length ox) (length oy) → ⊥) → (r : Narrowed)
+        → NarrowPromise R xs ys work ox oy work′ ox′ oy′ r
+        → (q : Refusal) × (r ≡ Narrowed.Refused q) × NarrowRefused xs ys (length work) (length ox) (length oy) (told q)
+    malformed xs ys work ox oy work′ ox′ oy′ n Narrowed.Narrow p = absurd (n (p .0 .shapes, p .0 .room))
+    malformed xs ys work ox oy work′ ox′ oy′ n Narrowed.None p = absurd (n (p .0 .shapes, p .0 .room))
+    malformed xs ys work ox oy work′ ox′ oy′ n (Narrowed.Refused q) p = (q, refl, p .0)
+
+pub run-book-refuses : (counts blocks rules work blocks′ work′ : List ℕ)
+    → Refuses Ran.Refused (RunBook counts blocks rules work blocks′ work′) (BookAccepted counts blocks rules (length work)) (BookRefused counts blocks rules (length work))
+run-book-refuses counts blocks rules work blocks′ work′ = record { acceptable = λ a q p. book-not (p .0) a; malformed = malformed; one = λ t u p q. book-one p q }
+  where
+    malformed : (BookAccepted counts blocks rules (length work) → ⊥) → (r : Ran) → RunBook counts blocks rules work blocks′ work′ r
+        → (q : Refusal) × (r ≡ Ran.Refused q) × BookRefused counts blocks rules (length work) (told q)
+    malformed n (Ran.Stable m) p = absurd (n (p .0 .accepted))
+    malformed n (Ran.None m) p = absurd (n (p .0 .accepted))
+    malformed n (Ran.Refused q) p = (q, refl, p .0)
+
+pub run-file-refuses : (file report report′ : List ℕ)
+    → Refuses Written.Refused (RunFile file report report′) (FileAcceptable file (length report)) (RunRefused file (length report))
+run-file-refuses file report report′ = record {
+  acceptable = λ a q p. run-file-not (a .writing) (a .accepted) (a .enough) (p .0);
+  malformed = malformed;
+  one = λ t u p q. run-refused-one p q;
+}
+  where
+    malformed : (FileAcceptable file (length report) → ⊥) → (r : Written) → RunFile file report report′ r
+        → (q : Refusal) × (r ≡ Written.Refused q) × RunRefused file (length report) (told q)
+    malformed n (Written.Text m) p = absurd (n (record { book = p .book; writing = p .accepted; accepted = p .written .accepted; enough = p .written .room }))
+    malformed n (Written.Refused q) p = (q, refl, p .0)

@@ -1,0 +1,88 @@
+-- Demand 3 speaks of rules applied singly, in any order: here each application is a call of the library, on lent numbers.
+-- The state is the numbers of all texts' blocks, end to end. A rule names two texts, and its kind the call that narrows them.
+use mathlib.Core.Path.{_≡_}
+use mathlib.Core.List.{List, [], _∷_}
+use Prim.Native.Nat.{ℕ, zero, suc, _*_, _<_}
+use lib.ListN.{take}
+use Rattle.answers.specs.declared.Narrowed.{Narrowed}
+use Rattle.answers.specs.declared.Narrowed.the-variants.{Narrow, None}
+use Rattle.shapes.specs.Lent.{shapeOf}
+use Rattle.shapes.specs.Shape.{Fits}
+use Rattle.hulls.specs.Book.{Within}
+use Rattle.texts.specs.Kind.{relationOf}
+use Rattle.rules.specs.declared.Rule.{Rule}
+use Rattle.rules.specs.Rule.{ruleAt, ruleCount}
+use Rattle.books.specs.Counts.{countOf, firstOf}
+use Rattle.books.specs.Rules.{Names}
+use Rattle.books.specs.Code.{numbersIn}
+use Rattle.laying.specs.Laid.{replaced}
+use Rattle.book_steps.specs.Step.{Standing}
+use Rattle.dashed.specs.Promises.{NarrowEqual, NarrowAtMost, NarrowBefore}
+
+-- The promise of the call that a rule's kind names: 0 equal, 1 a at most b, 2 a before b.
+abbrev pub CallOf : ℕ → List ℕ → List ℕ → List ℕ → List ℕ → List ℕ → List ℕ → List ℕ → List ℕ → Narrowed → Type 0
+CallOf zero xs ys work ox oy work′ ox′ oy′ r = NarrowEqual xs ys work ox oy work′ ox′ oy′ r
+CallOf (suc zero) xs ys work ox oy work′ ox′ oy′ r = NarrowAtMost xs ys work ox oy work′ ox′ oy′ r
+CallOf (suc (suc zero)) xs ys work ox oy work′ ox′ oy′ r = NarrowBefore xs ys work ox oy work′ ox′ oy′ r
+CallOf (suc (suc (suc k))) xs ys work ox oy work′ ox′ oy′ r = ⊥
+
+-- A call for the rule t, on the numbers of its two texts among xs: the memory lent, the same as handed back, and any outcome that the promise permits.
+pub record Call (counts : List ℕ) (t : Rule) (xs : List ℕ) (answer : Narrowed) : Type 0 where
+  pub work : List ℕ
+  pub out-a : List ℕ
+  pub out-b : List ℕ
+  pub work′ : List ℕ
+  pub out-a′ : List ℕ
+  pub out-b′ : List ℕ
+  pub permitted : CallOf (t .kind) (numbersIn counts xs (t .a)) (numbersIn counts xs (t .b)) work out-a out-b work′ out-a′ out-b′ answer
+
+-- The two new shapes stand at the start of the outputs.
+abbrev pub newA : (counts : List ℕ) (t : Rule) (xs : List ℕ) → Call counts t xs Narrow → List ℕ
+newA counts t xs c = take (countOf counts (t .a) * 4) (c .out-a′)
+
+abbrev pub newB : (counts : List ℕ) (t : Rule) (xs : List ℕ) → Call counts t xs Narrow → List ℕ
+newB counts t xs c = take (countOf counts (t .b) * 4) (c .out-b′)
+
+-- They are laid back over the old ones.
+abbrev pub after : (counts : List ℕ) (t : Rule) (xs : List ℕ) → Call counts t xs Narrow → List ℕ
+after counts t xs c = replaced (firstOf counts (t .b) * 4) (newB counts t xs c) (replaced (firstOf counts (t .a) * 4) (newA counts t xs c) xs)
+
+-- The call for the rule t answers with both shapes as they are.
+pub record Leaves (counts : List ℕ) (t : Rule) (xs : List ℕ) : Type 0 where
+  pub call : Call counts t xs Narrow
+  pub same-a : newA counts t xs call ≡ numbersIn counts xs (t .a)
+  pub same-b : newB counts t xs call ≡ numbersIn counts xs (t .b)
+
+-- Every rule's call does.
+pub record LeftAlone (counts rules xs : List ℕ) : Type 0 where
+  pub each : (j : ℕ) → j < ruleCount rules → Leaves counts (ruleAt rules j) xs
+
+-- How a sequence of calls ends: one of them has answered none, or with numbers that every call leaves alone.
+pub data Ending : Type 0 where
+  none : Ending
+  numbers : List ℕ → Ending
+
+-- A sequence of calls from the numbers xs, for the rules with these numbers, from 0, in this order: any rules, each as often as one likes.
+pub data Calls (counts rules : List ℕ) : List ℕ → List ℕ → Ending → Type 0 where
+  says-none : {xs : List ℕ} (j : ℕ) → j < ruleCount rules → Call counts (ruleAt rules j) xs None → Calls counts rules xs (j ∷ []) none
+  rests : {xs : List ℕ} → LeftAlone counts rules xs → Calls counts rules xs [] (numbers xs)
+  goes-on : {xs js : List ℕ} {e : Ending} (j : ℕ) → j < ruleCount rules → (c : Call counts (ruleAt rules j) xs Narrow)
+      → Calls counts rules (after counts (ruleAt rules j) xs c) js e → Calls counts rules xs (j ∷ js) e
+
+-- In book order, round after round, from rule k of n on.
+pub data InOrder (n : ℕ) : ℕ → List ℕ → Type 0 where
+  ends : {k : ℕ} → InOrder n k []
+  next : {k : ℕ} {js : List ℕ} → k < n → InOrder n (suc k) js → InOrder n k (k ∷ js)
+  round : {k : ℕ} {js : List ℕ} → k ≡ n → InOrder n 0 js → InOrder n k js
+
+-- The numbers zs are the widest, within those entered, that are a sound shape for each text and that no call would narrow or answer with none.
+pub record WidestLeft (counts rules blocks zs : List ℕ) : Type 0 where
+  pub stands : Standing counts zs
+  pub left : LeftAlone counts rules zs
+  pub within : Within (shapeOf zs) (shapeOf blocks)
+  pub widest : (ys : List ℕ) → Standing counts ys → LeftAlone counts rules ys → Within (shapeOf ys) (shapeOf blocks) → Within (shapeOf ys) (shapeOf zs)
+
+-- One text for each number, each fitting its shape among xs, that together satisfy every rule of the book.
+pub record Choice (counts rules xs : List ℕ) (text : ℕ → List ℕ) : Type 0 where
+  pub fits : (k : ℕ) → Names counts k → Fits (shapeOf (numbersIn counts xs k)) (text k)
+  pub keeps : (j : ℕ) → j < ruleCount rules → relationOf (ruleAt rules j .kind) (text (ruleAt rules j .a)) (text (ruleAt rules j .b))

@@ -1,0 +1,178 @@
+-- The user's three demands, a field for each sentence, over the promises of the calls (`dashed`, Promises.antt). That every call ends on every input and leaves no
+-- duty to its caller is what it means that the calls are proved with no `requires`; it is no statement of this file.
+use mathlib.Core.Path.{_≡_}
+use mathlib.Core.List.{List, []}
+use mathlib.Core.Logic.{_⊎_, _↔_}
+use Prim.Native.Nat.{ℕ, _*_, _≤_, _<_}
+use lib.ListN.{length, getD, take}
+use Rattle.answers.specs.Told.{Told, tell, told}
+use Rattle.answers.specs.declared.Refusal.{Refusal}
+use Rattle.answers.specs.declared.Checked.{Checked}
+use Rattle.answers.specs.declared.Fit.{Fit}
+use Rattle.answers.specs.declared.Narrowed.{Narrowed}
+use Rattle.answers.specs.declared.Ran.{Ran}
+use Rattle.answers.specs.declared.Swept.{Swept}
+use Rattle.answers.specs.declared.Written.{Written}
+use Rattle.shapes.specs.Shape.{Block, Filling, textOf, Fits, noBlock}
+use Rattle.shapes.specs.Lent.{Numbers, shapeOf, wordsOf, Accepted, ShapeRefused}
+use Rattle.texts.specs.Order.{AtMost, Before}
+use Rattle.hulls.specs.Hull.{Tight}
+use Rattle.hulls.specs.Book.{Within, Stable}
+use Rattle.pairs.specs.Pair.{PairAccepted, Room, NarrowRefused}
+use Rattle.pair_calls.specs.Sweep.{SweepRefused}
+use Rattle.sweep_steps.specs.Steps.{sweepOf}
+use Rattle.sweeps.specs.Read.{sweptOf, outputOf}
+use Rattle.rules.specs.Rule.{ruleCount, numbersOfAll}
+use Rattle.books.specs.Rules.{ruleOf, AllIn}
+use Rattle.books.specs.Refused.{BookAccepted, BookRefused}
+use Rattle.book_steps.specs.Step.{Standing}
+use Rattle.book_lines.specs.Book.{Book}
+use Rattle.files.specs.Departs.{FileAccepted}
+use Rattle.file_runs.specs.Promise.{RunRefused}
+use Rattle.dashed.specs.Promises.{CheckShape, FitsShape, Earlier, LeastText, GreatestText, Sweep, NarrowEqual, NarrowAtMost, NarrowBefore, RunBook, RunFile}
+use Rattle.demands.specs.Calls.{LeftAlone, none, numbers, Ending, Calls, InOrder, WidestLeft, Choice}
+
+-- ---- demand 1
+
+-- Malformed is refused by number, text and place: what is acceptable is never refused, what is not always is, and by the one number, text and place that is due.
+pub record Refuses {Answer : Type 0} (refused : Refusal → Answer) (Promise : Answer → Type 0) (Acceptable : Type 0) (Due : Told → Type 0) : Type 0 where
+  pub acceptable : Acceptable → (q : Refusal) → Promise (refused q) → ⊥
+  pub malformed : (Acceptable → ⊥) → (r : Answer) → Promise r → (q : Refusal) × (r ≡ refused q) × Due (told q)
+  pub one : (t u : Told) → Due t → Due u → t ≡ u
+
+-- The refusals of least and greatest text: the shape's, then 5.
+abbrev pub TextRefused : List ℕ → List ℕ → Told → Type 0
+TextRefused xs out t = ShapeRefused 1 xs t ⊎ (Accepted xs × (length out < 250) × (t ≡ tell 5 0 0))
+
+-- The file is the writing of an accepted book, and its report has room.
+pub record FileAcceptable (file : List ℕ) (room : ℕ) : Type 0 where
+  pub book : Book
+  pub writing : FileAccepted file book
+  pub accepted : BookAccepted (book .counts) (wordsOf (book .blocks)) (numbersOfAll (book .rules)) 63001
+  pub enough : 16384 ≤ room
+
+-- The promise of a narrowing call, over what is lent, what is handed back, and the answer.
+abbrev pub NarrowCall : Type 1
+NarrowCall = List ℕ → List ℕ → List ℕ → List ℕ → List ℕ → List ℕ → List ℕ → List ℕ → Narrowed → Type 0
+
+pub record NarrowingRefuses (Call : NarrowCall) : Type 0 where
+  pub refuses : (xs ys work ox oy work′ ox′ oy′ : List ℕ) → Refuses Narrowed.Refused (Call xs ys work ox oy work′ ox′ oy′)
+      (PairAccepted xs ys × Room xs ys (length work) (length ox) (length oy)) (NarrowRefused xs ys (length work) (length ox) (length oy))
+  pub untouched : (xs ys work ox oy work′ ox′ oy′ : List ℕ) (q : Refusal) → Call xs ys work ox oy work′ ox′ oy′ (Narrowed.Refused q)
+      → (work′ ≡ work) × (ox′ ≡ ox) × (oy′ ≡ oy)
+  pub determined : (xs ys work ox oy work′ ox′ oy′ work″ ox″ oy″ : List ℕ) (r s : Narrowed) → Call xs ys work ox oy work′ ox′ oy′ r
+      → Call xs ys work ox oy work″ ox″ oy″ s → (r ≡ s) × (work′ ≡ work″) × (ox′ ≡ ox″) × (oy′ ≡ oy″)
+
+pub record Demand1 : Type 1 where
+  -- "A malformed shape, book or file and a short buffer are refused by number, text and place"
+  pub check-shape : (xs : List ℕ) → Refuses Checked.Refused (CheckShape xs) (Accepted xs) (ShapeRefused 1 xs)
+  pub fits : (xs t : List ℕ) → Refuses Fit.Refused (FitsShape xs t) (Accepted xs) (ShapeRefused 1 xs)
+  pub least : (xs out out′ : List ℕ) → Refuses Written.Refused (LeastText xs out out′) (Accepted xs × (250 ≤ length out)) (TextRefused xs out)
+  pub greatest : (xs out out′ : List ℕ) → Refuses Written.Refused (GreatestText xs out out′) (Accepted xs × (250 ≤ length out)) (TextRefused xs out)
+  pub sweep : (xs ys out out′ : List ℕ) → Refuses Swept.Refused (Sweep xs ys out out′) (PairAccepted xs ys × (2 * length (shapeOf xs) ≤ length out))
+      (SweepRefused xs ys (length out))
+  pub run-book : (counts blocks rules work blocks′ work′ : List ℕ) → Refuses Ran.Refused (RunBook counts blocks rules work blocks′ work′)
+      (BookAccepted counts blocks rules (length work)) (BookRefused counts blocks rules (length work))
+  pub run-file : (file report report′ : List ℕ) → Refuses Written.Refused (RunFile file report report′) (FileAcceptable file (length report))
+      (RunRefused file (length report))
+  -- "a refusal leaves all lent memory untouched"
+  pub least-untouched : (xs out out′ : List ℕ) (q : Refusal) → LeastText xs out out′ (Written.Refused q) → out′ ≡ out
+  pub greatest-untouched : (xs out out′ : List ℕ) (q : Refusal) → GreatestText xs out out′ (Written.Refused q) → out′ ≡ out
+  pub sweep-untouched : (xs ys out out′ : List ℕ) (q : Refusal) → Sweep xs ys out out′ (Swept.Refused q) → out′ ≡ out
+  pub book-untouched : (counts blocks rules work blocks′ work′ : List ℕ) (q : Refusal) → RunBook counts blocks rules work blocks′ work′ (Ran.Refused q)
+      → (blocks′ ≡ blocks) × (work′ ≡ work)
+  pub file-untouched : (file report report′ : List ℕ) (q : Refusal) → RunFile file report report′ (Written.Refused q) → report′ ≡ report
+  -- both, and the next, of the three narrowings
+  pub equal : NarrowingRefuses NarrowEqual
+  pub at-most : NarrowingRefuses NarrowAtMost
+  pub before : NarrowingRefuses NarrowBefore
+  -- for one input there is one outcome: the answer with its count or refusal, and every lent cell
+  pub check-shape-one : (xs : List ℕ) (r s : Checked) → CheckShape xs r → CheckShape xs s → r ≡ s
+  pub fits-one : (xs t : List ℕ) (r s : Fit) → FitsShape xs t r → FitsShape xs t s → r ≡ s
+  pub earlier-one : {Lent : Type 0} (a b : List ℕ) {x y r s : Lent} → Earlier a b x y r → Earlier a b x y s → r ≡ s
+  pub least-one : (xs out out′ out″ : List ℕ) (r s : Written) → LeastText xs out out′ r → LeastText xs out out″ s → (r ≡ s) × (out′ ≡ out″)
+  pub greatest-one : (xs out out′ out″ : List ℕ) (r s : Written) → GreatestText xs out out′ r → GreatestText xs out out″ s → (r ≡ s) × (out′ ≡ out″)
+  pub sweep-one : (xs ys out out′ out″ : List ℕ) (r s : Swept) → Sweep xs ys out out′ r → Sweep xs ys out out″ s → (r ≡ s) × (out′ ≡ out″)
+  pub run-book-one : (counts blocks rules work b b′ w w′ : List ℕ) (r s : Ran) → RunBook counts blocks rules work b w r → RunBook counts blocks rules work b′ w′ s
+      → (r ≡ s) × (b ≡ b′) × (w ≡ w′)
+  pub run-file-one : (file report report′ report″ : List ℕ) (r s : Written) → RunFile file report report′ r → RunFile file report report″ s
+      → (r ≡ s) × (report′ ≡ report″)
+
+-- ---- demand 2
+
+-- A pair of fillings whose texts satisfy R.
+pub record Pair (R : List ℕ → List ℕ → Type 0) (X Y : List Block) : Type 0 where
+  pub first : List (List ℕ)
+  pub second : List (List ℕ)
+  pub fills-first : Filling X first
+  pub fills-second : Filling Y second
+  pub satisfies : R (textOf first) (textOf second)
+
+-- Each block of the new shapes has exactly the characters, and the least and greatest count, that some such pair gives it.
+pub record KeepsExactly (R : List ℕ → List ℕ → Type 0) (X Y X′ Y′ : List Block) : Type 0 where
+  pub blocks-first : length X′ ≡ length X
+  pub blocks-second : length Y′ ≡ length Y
+  pub first : (i : ℕ) → i < length X → Tight (λ r. (p : Pair R X Y) × (getD (p .first) i [] ≡ r)) (getD X′ i noBlock)
+  pub second : (i : ℕ) → i < length Y → Tight (λ r. (p : Pair R X Y) × (getD (p .second) i [] ≡ r)) (getD Y′ i noBlock)
+
+pub record Exact (R : List ℕ → List ℕ → Type 0) (Call : NarrowCall) : Type 0 where
+  -- "'none' comes exactly if no pair of texts satisfies the rule"
+  pub none-sound : {xs ys work ox oy work′ ox′ oy′ : List ℕ} → Call xs ys work ox oy work′ ox′ oy′ Narrowed.None
+      → (t u : List ℕ) → Fits (shapeOf xs) t → Fits (shapeOf ys) u → R t u → ⊥
+  pub none-complete : {xs ys work ox oy work′ ox′ oy′ : List ℕ} → Call xs ys work ox oy work′ ox′ oy′ Narrowed.Narrow
+      → (t : List ℕ) × (u : List ℕ) × Fits (shapeOf xs) t × Fits (shapeOf ys) u × R t u
+  -- "otherwise each block keeps exactly the characters, and the least and greatest count, that some satisfying pair of fillings gives it"
+  pub keeps : {xs ys work ox oy work′ ox′ oy′ : List ℕ} → Call xs ys work ox oy work′ ox′ oy′ Narrowed.Narrow
+      → KeepsExactly R (shapeOf xs) (shapeOf ys) (shapeOf (take (length xs) ox′)) (shapeOf (take (length ys) oy′))
+
+pub record Demand2 : Type 0 where
+  -- "Fitting, least and greatest text mean what the dashed-string papers define."
+  pub fits-yes : (xs t : List ℕ) → FitsShape xs t Fit.Fits → Fits (shapeOf xs) t
+  pub fits-no : (xs t : List ℕ) → FitsShape xs t Fit.Unfit → Fits (shapeOf xs) t → ⊥
+  pub least : {xs out out′ : List ℕ} (n : ℕ) → LeastText xs out out′ (Written.Text n)
+      → Fits (shapeOf xs) (take n out′) × ((u : List ℕ) → Fits (shapeOf xs) u → AtMost (take n out′) u)
+  pub greatest : {xs out out′ : List ℕ} (n : ℕ) → GreatestText xs out out′ (Written.Text n)
+      → Fits (shapeOf xs) (take n out′) × ((u : List ℕ) → Fits (shapeOf xs) u → AtMost u (take n out′))
+  -- "For equality and both orders .."
+  pub equal : Exact (λ t u. t ≡ u) NarrowEqual
+  pub at-most : Exact AtMost NarrowAtMost
+  pub before : Exact Before NarrowBefore
+  -- "The quick sweep follows its corrected rules": the answer with its looks, and every output cell, are those of document 01's steps
+  pub sweep-places : {xs ys out out′ : List ℕ} (k : ℕ) → Sweep xs ys out out′ (Swept.Places k)
+      → (Swept.Places k ≡ sweptOf (sweepOf (shapeOf xs) (shapeOf ys))) × (out′ ≡ outputOf (sweepOf (shapeOf xs) (shapeOf ys)) out)
+  pub sweep-cannot : {xs ys out out′ : List ℕ} (k : ℕ) → Sweep xs ys out out′ (Swept.Cannot k)
+      → (Swept.Cannot k ≡ sweptOf (sweepOf (shapeOf xs) (shapeOf ys))) × (out′ ≡ outputOf (sweepOf (shapeOf xs) (shapeOf ys)) out)
+  -- "and says 'cannot' only where no common text exists"
+  pub cannot-sound : {xs ys out out′ : List ℕ} (k : ℕ) → Sweep xs ys out out′ (Swept.Cannot k)
+      → (t : List ℕ) → Fits (shapeOf xs) t → Fits (shapeOf ys) t → ⊥
+
+-- ---- demand 3
+
+pub record Demand3 : Type 0 where
+  -- "In an accepted book, rules applied singly in any order until one says none or none would change anything all agree with each other"
+  pub agree : {counts blocks rules js ks : List ℕ} {w : ℕ} {e u : Ending} → BookAccepted counts blocks rules w → Numbers blocks
+      → Calls counts rules blocks js e → Calls counts rules blocks ks u → e ≡ u
+  -- "and with our runner: all none, or all the same shapes"
+  pub runner-stable : {counts blocks rules work blocks′ work′ js : List ℕ} {e : Ending} (m : ℕ) → Numbers blocks
+      → RunBook counts blocks rules work blocks′ work′ (Ran.Stable m) → Calls counts rules blocks js e → e ≡ numbers blocks′
+  pub runner-none : {counts blocks rules work blocks′ work′ js : List ℕ} {e : Ending} (m : ℕ) → Numbers blocks
+      → RunBook counts blocks rules work blocks′ work′ (Ran.None m) → Calls counts rules blocks js e → e ≡ none
+  -- our runner is itself such a sequence, of its own applications, in book order, those that change nothing included
+  pub runner-calls-stable : {counts blocks rules work blocks′ work′ : List ℕ} (m : ℕ) → Numbers blocks → RunBook counts blocks rules work blocks′ work′ (Ran.Stable m)
+      → (js : List ℕ) × Calls counts rules blocks js (numbers blocks′) × InOrder (ruleCount rules) 0 js × (length js ≡ m)
+  pub runner-calls-none : {counts blocks rules work blocks′ work′ : List ℕ} (m : ℕ) → Numbers blocks → RunBook counts blocks rules work blocks′ work′ (Ran.None m)
+      → (js : List ℕ) × Calls counts rules blocks js none × InOrder (ruleCount rules) 0 js × (length js ≡ m)
+  -- in whatever order the rules were entered
+  pub permuted : {counts blocks rules others js ks : List ℕ} {w v : ℕ} {e u : Ending} → BookAccepted counts blocks rules w → BookAccepted counts blocks others v
+      → Numbers blocks → AllIn rules others → AllIn others rules → Calls counts rules blocks js e → Calls counts others blocks ks u → e ≡ u
+  -- "the widest stable ones within those entered"; none means that there are no such shapes
+  pub widest : {counts blocks rules js zs : List ℕ} {w : ℕ} → BookAccepted counts blocks rules w → Numbers blocks
+      → Calls counts rules blocks js (numbers zs) → WidestLeft counts rules blocks zs
+  pub none-wide : {counts blocks rules js : List ℕ} {w : ℕ} → BookAccepted counts blocks rules w → Calls counts rules blocks js none
+      → (ys : List ℕ) → Standing counts ys → LeftAlone counts rules ys → Within (shapeOf ys) (shapeOf blocks) → ⊥
+  -- stable, as said of all blocks at once (`Stable`, hulls), is exactly that every call leaves the numbers alone
+  pub stable-left : {counts blocks rules zs : List ℕ} {w : ℕ} → BookAccepted counts blocks rules w → Standing counts zs → Numbers zs
+      → Stable (ruleCount rules) (ruleOf counts rules) (shapeOf zs) ↔ LeftAlone counts rules zs
+  -- "No choice of texts that satisfies the whole book is lost."
+  pub none-lost : {counts blocks rules js : List ℕ} {w : ℕ} {e : Ending} {text : ℕ → List ℕ} → BookAccepted counts blocks rules w → Numbers blocks
+      → Calls counts rules blocks js e → Choice counts rules blocks text → (zs : List ℕ) × (e ≡ numbers zs) × Choice counts rules zs text

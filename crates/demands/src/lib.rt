@@ -1,0 +1,1 @@
+// No code: the user's three demands, stated over the promises of `dashed`.

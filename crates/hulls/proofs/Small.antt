@@ -1,0 +1,33 @@
+-- Narrower blocks have no new characters: their bases stay below the same power of two. Assumes nothing.
+use mathlib.Core.Path.{_≡_, sym, _∙_, subst}
+use mathlib.Core.List.{List}
+use Prim.Native.Nat.{ℕ, zero, suc, _*_, _/_, _^_, _<_}
+use native.Mathlib.Nat.{pow-succ'}
+use native.Mathlib.Numerals.{add-one}
+use native.Mathlib.Omega.{arith}
+use lib.Pow.{shr-lt}
+use Rattle.bases.specs.Base.{Holds, Empty}
+use Rattle.bases.proofs.Laws.{halved, empty-zero, none-in-zero}
+use Rattle.shapes.specs.All.{All, more}
+use Rattle.shapes.specs.Shape.{Block, Small}
+use Rattle.hulls.specs.Book.{Within, end, next}
+
+pub sub-half : (a b : ℕ) → ((c : ℕ) → Holds a c → Holds b c) → (c : ℕ) → Holds (a / 2) c → Holds (b / 2) c
+unfolding Holds
+sub-half a b s c h = sym (halved b c) ∙ s (suc c) (halved a c ∙ h)
+
+-- what a base below 2 ^ k holds is below it too
+sub-small : (k a b : ℕ) → b < 2 ^ k → ((c : ℕ) → Holds a c → Holds b c) → a < 2 ^ k
+unfolding Empty
+sub-small zero a b l s =
+    let zero-b : b ≡ 0 = omega arith in
+    let zero-a : a ≡ 0 = empty-zero a (λ c h. none-in-zero c (subst (λ (x : ℕ). Holds x c) zero-b (s c h))) in
+    omega arith
+sub-small (suc k) a b l s =
+    let h = sub-small k (a / 2) (b / 2) (shr-lt k 1 (rw add-one l)) (sub-half a b s) in
+    let e : 2 ^ suc k ≡ 2 * 2 ^ k = pow-succ' 2 k in
+    omega arith
+
+pub within-small : {H S : List Block} → Within H S → All Small S → All Small H
+within-small end k = All.none
+within-small (next {h} {b} p w) (more k l) = more (sub-small 128 (h .base) (b .base) k (p .base)) (within-small w l)

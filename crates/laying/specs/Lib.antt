@@ -1,0 +1,2 @@
+-- Something laid over a part of a list.
+pub mod Laid

@@ -1,0 +1,2 @@
+-- A rule as numbers.
+pub mod Rule

@@ -1,0 +1,26 @@
+// A rule of a book: its kind and the texts that it names.
+ghost use mathlib.Core.Path.{_≡_};
+ghost use Prim.Native.Nat.{_<_};
+ghost use Rattle.rules.specs.Rule.{ruleAt, ruleCount};
+
+pub struct Rule {
+    pub kind: u64,
+    pub a: u64,
+    pub b: u64,
+}
+
+// How many numbers a rule is.
+pub const SIZE: usize = 3;
+
+// Rule j, from 0, of lent numbers.
+pub fn rule_at(rules: &[u64], j: usize) -> Rule
+    requires { ⌜ j < ruleCount (now rules) ⌝ }
+    ensures { λ r. ⌜ r ≡ ruleAt (now (rules .entry)) j ⌝ }
+{
+    let at = j * SIZE;
+    Rule {
+        kind: rules[at],
+        a: rules[at + 1],
+        b: rules[at + 2],
+    }
+}

@@ -1,0 +1,160 @@
+-- Which numbers a number holds: laws of `Exactly` for every operation, whatever the number of words. Assumes nothing.
+use mathlib.Core.Path.{_≡_, refl, sym, ap, ap₂, _∙_, subst}
+use mathlib.Core.Logic.{_⊎_, ⊎-elim}
+use Prim.Native.Nat.{ℕ, zero, suc, _+_, _-_, _*_, _/_, _%_, _^_, _<_}
+use native.Mathlib.Nat.{mod-lt, div-one, div-eq-of-lt, lt-of-lt-of-le, pow-suc, one-mul}
+use native.Mathlib.Numerals.{add-one}
+use native.Mathlib.Omega.{arith}
+use lib.Arith.{dbl-pred}
+use lib.Bits.{bitAnd, bitOr, bitXor, and-shr, and-mod, xor-shr, xor-mod, and-zero-l}
+use lib.Dec.{lit<, eqb}
+use lib.Pow.{pow-mono, pow-pos, field, mod-mod-pow, ones-split, ones-lt, high, shl-exact}
+use Rattle.bases.specs.Base.{Holds, Empty}
+use Rattle.bases.specs.Tells.{Tells}
+use Rattle.bases.proofs.Laws.{halved, none-in-zero}
+use Rattle.bases.proofs.Tells.{tells-bit}
+use Rattle.bases.proofs.Plain.{lt-or-le, eq-or-ne}
+use Rattle.bases.proofs.Sets.{same-base, both, shared, either, in-first, in-second}
+use Rattle.sets.specs.Set.{Exactly, OneUp}
+
+-- ---- what a property says of the number
+
+pub exactly-one : {m n : ℕ} {P : ℕ → Type 0} → Exactly m P → Exactly n P → m ≡ n
+exactly-one x y = same-base _ _ (λ e h. y .mark e (x .so e h)) (λ e h. x .mark e (y .so e h))
+
+pub exactly-as : {n : ℕ} {P Q : ℕ → Type 0} → ((e : ℕ) → P e → Q e) → ((e : ℕ) → Q e → P e) → Exactly n P → Exactly n Q
+exactly-as f g x = record { so = λ e h. f e (x .so e h); mark = λ e q. x .mark e (g e q) }
+
+pub exactly-at : {m n : ℕ} {P : ℕ → Type 0} → m ≡ n → Exactly n P → Exactly m P
+exactly-at {P} e x = subst (λ (z : ℕ). Exactly z P) (sym e) x
+
+-- ---- held or not
+
+pub held-or-not : (n e : ℕ) → Holds n e ⊎ (Holds n e → ⊥)
+unfolding Holds
+held-or-not n e = eq-or-ne (n / 2 ^ e % 2) 1
+
+bit-off : (n e : ℕ) → (Holds n e → ⊥) → n / 2 ^ e % 2 ≡ 0
+unfolding Holds
+bit-off n e h = omega (arith, h, mod-lt (n / 2 ^ e) {m = 2} (lit< tt))
+
+not-one : _≡_ {A = ℕ} 0 1 → ⊥
+not-one h = omega arith
+
+-- a number below 2 ^ k holds nothing from k on
+pub held-under : (k : ℕ) {n : ℕ} → n < 2 ^ k → (e : ℕ) → Holds n e → e < k
+unfolding Holds
+held-under k h e b = ⊎-elim
+    (λ small. small)
+    (λ large. absurd (not-one (sym (ap (λ (x : ℕ). x % 2) (div-eq-of-lt (lt-of-lt-of-le h (pow-mono large)))) ∙ b)))
+    (lt-or-le e k)
+
+-- a test of an equal bit tells whether it is held
+pub tells-same : {x y : ℕ} → x ≡ y → Tells (eqb y 1) (x ≡ 1)
+tells-same e = tells-bit _ (λ h. e ∙ h) (λ h. sym e ∙ h)
+
+-- ---- none, both, either, without
+
+pub none-exactly : {n : ℕ} {P : ℕ → Type 0} → n ≡ 0 → ((e : ℕ) → P e → ⊥) → Exactly n P
+unfolding Empty
+none-exactly z none = exactly-at z (record { so = λ e h. absurd (none-in-zero e h); mark = λ e p. absurd (none e p) })
+
+pub both-exactly : (s t : ℕ) {n : ℕ} → n ≡ bitAnd s t → Exactly n (λ e. Holds s e × Holds t e)
+both-exactly s t d = exactly-at d (record { so = shared s t; mark = λ e h. both s t e (h .0) (h .1) })
+
+pub either-exactly : (s t : ℕ) {n : ℕ} → n ≡ bitOr s t → Exactly n (λ e. Holds s e ⊎ Holds t e)
+either-exactly s t d = exactly-at d (record { so = either s t; mark = λ e h. ⊎-elim (in-first s t e) (in-second s t e) h })
+
+-- what t leaves of s
+abbrev rest : ℕ → ℕ → ℕ
+rest s t = bitXor s (bitAnd s t)
+
+rest-bit : (s t e : ℕ) → rest s t / 2 ^ e % 2 ≡ rest (s / 2 ^ e % 2) (t / 2 ^ e % 2)
+rest-bit s t e =
+    ap (λ (x : ℕ). x % 2) (xor-shr s (bitAnd s t) e) ∙ xor-mod (s / 2 ^ e) (bitAnd s t / 2 ^ e) 1
+    ∙ ap (bitXor (s / 2 ^ e % 2)) (ap (λ (x : ℕ). x % 2) (and-shr s t e) ∙ and-mod (s / 2 ^ e) (t / 2 ^ e) 1)
+
+pub without-exactly : (s t : ℕ) {n : ℕ} → n ≡ bitXor s (bitAnd s t) → Exactly n (λ e. Holds s e × (Holds t e → ⊥))
+unfolding Holds
+without-exactly s t d = exactly-at d (record {
+  so = λ e h.
+      let b : rest (s / 2 ^ e % 2) (t / 2 ^ e % 2) ≡ 1 = sym (rest-bit s t e) ∙ h in
+      ⊎-elim
+      (λ in-s. (in-s, λ in-t. not-one (sym (ap₂ rest in-s in-t) ∙ b)))
+      (λ out. absurd (not-one (sym (ap (λ (x : ℕ). rest x (t / 2 ^ e % 2)) (bit-off s e out) ∙ and-zero-l (t / 2 ^ e % 2)) ∙ b)))
+      (held-or-not s e);
+  mark = λ e h. rest-bit s t e ∙ ap₂ rest (h .0) (bit-off t e (h .1));
+})
+
+-- ---- one up and one down
+
+pub down-exactly : (s : ℕ) {n : ℕ} → n ≡ s / 2 → Exactly n (λ e. Holds s (e + 1))
+unfolding Holds
+down-exactly s d = exactly-at d (record { so = λ e h. rw add-one (halved s e ∙ h); mark = λ e h. sym (halved s e) ∙ (rw add-one at h) })
+
+pub one-up : {s : ℕ} (e : ℕ) → Holds s e → OneUp s (e + 1)
+one-up e h = record { number = e; held = h; next = refl }
+
+pub one-down : {s : ℕ} (e : ℕ) → OneUp s (e + 1) → Holds s e
+one-down {s} e u = let n = u .next in subst (Holds s) (let z : u .number ≡ e = omega arith in z) (u .held)
+
+pub none-up : {s : ℕ} → OneUp s 0 → ⊥
+none-up u = let n = u .next in omega arith
+
+double-exactly : (s : ℕ) → Exactly (s * 2) (OneUp s)
+unfolding Holds
+double-exactly s = record { so = so; mark = λ e u. rw (u .next, add-one) (twice (u .number) ∙ u .held) }
+  where
+    twice : (q : ℕ) → s * 2 / 2 ^ suc q % 2 ≡ s / 2 ^ q % 2
+    twice q = halved (s * 2) q ∙ ap (λ (x : ℕ). x / 2 ^ q % 2) (let z : s * 2 / 2 ≡ s = omega arith in z)
+
+    so : (e : ℕ) → s * 2 / 2 ^ e % 2 ≡ 1 → OneUp s e
+    so zero h = let z : s * 2 % 2 ≡ 1 = sym (ap (λ (x : ℕ). x % 2) (div-one (s * 2))) ∙ h in absurd (omega arith)
+    so (suc q) h = record { number = q; held = sym (twice q) ∙ h; next = sym (add-one q) }
+
+kept-exactly : (n k : ℕ) → Exactly (n % 2 ^ k) (λ e. (e < k) × Holds n e)
+unfolding Holds
+kept-exactly n k = record {
+  so = λ e h. let l = held-under k (mod-lt n (pow-pos k)) e h in (l, sym (kept e l) ∙ h);
+  mark = λ e h. kept e (h .0) ∙ h .1;
+}
+  where
+    kept : (e : ℕ) → e < k → n % 2 ^ k / 2 ^ e % 2 ≡ n / 2 ^ e % 2
+    kept e l =
+        let j : ℕ = k - e - 1 in
+        let split : k ≡ j + 1 + e = omega arith in
+        ap (λ (z : ℕ). n % 2 ^ z / 2 ^ e % 2) split ∙ ap (λ (z : ℕ). z % 2) (field n (j + 1) e) ∙ mod-mod-pow (n / 2 ^ e) j 1
+
+pub up-exactly : (s k : ℕ) {n : ℕ} → n ≡ s * 2 % 2 ^ k → Exactly n (λ e. (e < k) × OneUp s e)
+up-exactly s k d = exactly-at d
+    (exactly-as (λ e h. (h .0, double-exactly s .so e (h .1))) (λ e h. (h .0, double-exactly s .mark e (h .1))) (kept-exactly (s * 2) k))
+
+-- ---- 2 ^ k and 2 ^ k - 1
+
+pub one-exactly : (k : ℕ) → Exactly (2 ^ k) (λ e. e ≡ k)
+unfolding Holds
+one-exactly zero = record { so = λ e h. let l = held-under 1 (lit< tt) e h in omega arith; mark = λ e z. rw z refl }
+one-exactly (suc k) = exactly-at (pow-suc 2 k) (exactly-as
+    (λ e u. u .next ∙ add-one (u .number) ∙ ap suc (one-exactly k .so (u .number) (u .held)))
+    (λ e z. record { number = k; held = one-exactly k .mark k refl; next = z ∙ sym (add-one k) })
+    (double-exactly (2 ^ k)))
+
+pub ones-exactly : (k : ℕ) → Exactly (2 ^ k - 1) (λ e. e < k)
+unfolding Holds
+ones-exactly k = record { so = held-under k (ones-lt k); mark = mark }
+  where
+    odd : (i : ℕ) → (2 ^ suc i - 1) % 2 ≡ 1
+    odd i =
+        let z : ((2 ^ i - 1) * 2 + 1) % 2 ≡ 1 = omega arith in
+        ap (λ (x : ℕ). x % 2) (ap (λ (x : ℕ). x - 1) (pow-suc 2 i) ∙ dbl-pred (pow-pos i)) ∙ z
+
+    mark : (e : ℕ) → e < k → (2 ^ k - 1) / 2 ^ e % 2 ≡ 1
+    mark e l =
+        let i : ℕ = k - e - 1 in
+        let split : k ≡ suc i + e = omega arith in
+        ap (λ (z : ℕ). (2 ^ z - 1) / 2 ^ e % 2) split
+        ∙ ap (λ (z : ℕ). z % 2) (ap (λ (z : ℕ). z / 2 ^ e) (ones-split (suc i) e) ∙ high (2 ^ suc i - 1) e (ones-lt e)) ∙ odd i
+
+-- a one, shifted within a word
+pub one-shl : (k : ℕ) → k < 64 → (1 * 2 ^ k) % 2 ^ 64 ≡ 2 ^ k
+one-shl k h = shl-exact 1 k 64 (lit< tt) (omega arith) ∙ one-mul (2 ^ k)

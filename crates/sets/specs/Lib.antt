@@ -1,0 +1,2 @@
+-- What four words stand for.
+pub mod Set

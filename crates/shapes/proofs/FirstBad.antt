@@ -1,0 +1,23 @@
+-- There is one first item that lacks P, and none where all have it; and what a search has found. Assumes nothing.
+use mathlib.Core.Path.{_≡_, refl}
+use mathlib.Core.Logic.{⊎-elim}
+use Prim.Native.Nat.{ℕ, _+_, _≤_, _<_}
+use native.Mathlib.Omega.{arith}
+use Rattle.bases.proofs.Plain.{lt-or-le}
+use Rattle.shapes.specs.FirstBad.{FirstBad, UpTo}
+
+module _ {n : ℕ} {P : ℕ → Type 0} where
+  pub first-bad-one : {i j : ℕ} → FirstBad n P i → FirstBad n P j → i ≡ j
+  first-bad-one v w = ⊎-elim
+      (λ l. absurd (v .bad (w .good (v .before) l)))
+      (λ l. ⊎-elim (λ m. absurd (w .bad (v .good (w .before) m))) (λ m. let p = v .place in let q = w .place in omega arith) (lt-or-le (w .before) (v .before)))
+      (lt-or-le (v .before) (w .before))
+
+  pub first-bad-none : {i : ℕ} → ((j : ℕ) → j < n → P j) → FirstBad n P i → ⊥
+  first-bad-none all f = f .bad (all (f .before) (f .within))
+
+  pub up-to-first : {r : ℕ} → UpTo n P r → r < n → FirstBad n P (r + 1)
+  up-to-first {r} u l = record { before = r; place = refl; within = l; good = u .good; bad = u .bad l }
+
+  pub up-to-all : {r : ℕ} → UpTo n P r → n ≤ r → (j : ℕ) → j < n → P j
+  up-to-all u l j h = u .good j (omega arith)

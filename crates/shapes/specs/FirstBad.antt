@@ -1,0 +1,16 @@
+-- The first of n items that lacks P: blocks of a shape, texts and rules of a book. Items count from 0, their numbers from 1.
+use mathlib.Core.Path.{_≡_}
+use Prim.Native.Nat.{ℕ, _+_, _≤_, _<_}
+
+pub record FirstBad (n : ℕ) (P : ℕ → Type 0) (i : ℕ) : Type 0 where
+  pub before : ℕ
+  pub place : i ≡ before + 1
+  pub within : before < n
+  pub good : (j : ℕ) → j < before → P j
+  pub bad : P before → ⊥
+
+-- What a search answers: the first r items have P, and the next, if there is one, does not.
+pub record UpTo (n : ℕ) (P : ℕ → Type 0) (r : ℕ) : Type 0 where
+  pub within : r ≤ n
+  pub good : (j : ℕ) → j < r → P j
+  pub bad : r < n → P r → ⊥
