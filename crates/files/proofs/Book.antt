@@ -1,15 +1,14 @@
 -- Books are the paths through the grammar, and what begins a book is what a path leads over. Assumes nothing.
 use mathlib.Core.Path.{_≡_, refl, sym, ap, _∙_, subst}
-use mathlib.Core.List.{List, [], _∷_, _++_, map, append-assoc, append-nil}
+use mathlib.Core.List.{List, [], _∷_, _++_, map, append-nil}
 use Prim.Native.Nat.{ℕ, _+_, _≤_}
 use native.Mathlib.Omega.{arith}
 use native.Mathlib.Nat.{add-zero}
-use lib.ListN.{length, length-append}
+use lib.ListN.{length}
 use Rattle.shapes.specs.All.{All}
 use Rattle.shapes.specs.Shape.{Block}
 use Rattle.numerals.specs.Digits.{decimal}
-use Rattle.book_lines.specs.Book.{Book, InGrammar, Small, RightBlock, textsWord, blocksWord, rulesWord, headLine, blockLine, ruleLine, linesOf, joined}
-use Rattle.book_lines.proofs.Joined.{joined-append}
+use Rattle.book_lines.specs.Book.{Book, InGrammar, Small, RightBlock, textsWord, blocksWord, rulesWord, headLine, blockLine, ruleLine, linesOf}
 use Rattle.files.specs.Departs.{Begins, Departs}
 use Rattle.sections.specs.Steps.{State, Takes, Path, DepartsFrom}
 use Rattle.sections.specs.Steps.State.{start, counts, blocks, rules}
@@ -114,18 +113,4 @@ departs-of file i d =
           d .stuck .no-line line after (q .2 .0) e (subst (λ (s : State). Takes s line (q .2 .0)) same (q .2 .1));
       unfinished = λ e b g l.
           d .stuck .no-end e (path-one start (d .state) (rules 0) (d .lines) (d .path) (subst (λ (t : List (List ℕ)). Path start t (rules 0)) l (book-path b g)));
-    }
-
--- lines before, and then stuck after i more
-pub departs-after : (s t : State) (ls : List (List ℕ)) (bytes rest : List ℕ) (i : ℕ) → Path s ls t → bytes ≡ joined ls ++ rest → DepartsFrom t rest i → DepartsFrom s bytes (length ls + i)
-departs-after s t ls bytes rest i p e d =
-    record {
-      lines = ls ++ d .lines;
-      state = d .state;
-      rest = d .rest;
-      path = path-append s t (d .state) ls (d .lines) p (d .path);
-      count = length-append ls (d .lines) ∙ ap (λ (n : ℕ). length ls + n) (d .count);
-      split = e ∙ ap (λ (r : List ℕ). joined ls ++ r) (d .split) ∙ sym (append-assoc (joined ls) (joined (d .lines)) (d .rest))
-          ∙ ap (λ (t : List ℕ). t ++ d .rest) (sym (joined-append ls (d .lines)));
-      stuck = d .stuck;
     }

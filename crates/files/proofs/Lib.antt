@@ -1,7 +1,7 @@
 -- The laws of book files that other crates cite.
 pub mod Book
 pub mod Unique
-pub mod Sections
+pub mod Seen
 pub mod Whole
 pub mod Example
 pub mod Ready

@@ -13,8 +13,8 @@ use Rattle.sections.specs.Steps.{DepartsFrom}
 use Rattle.sections.specs.Steps.State.{counts, blocks, rules}
 use Rattle.sections.proofs.Steps.{rules-kind}
 use Rattle.files.specs.Departs.{FileAccepted}
-use Rattle.files.specs.Parts.{Items, SectionIs}
-use Rattle.files.proofs.Sections.{rules-head, after-section}
+use Rattle.sections.specs.Parts.{Items, SectionIs}
+use Rattle.sections.proofs.Sections.{rules-head, after-section}
 
 past : (rest : List ℕ) → 0 < length rest → DepartsFrom (rules 0) rest 0
 unfolding joined

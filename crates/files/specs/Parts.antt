@@ -3,37 +3,34 @@ use mathlib.Core.Path.{_≡_}
 use mathlib.Core.List.{List, _∷_, _++_, map}
 use Prim.Native.Nat.{ℕ, _+_, _*_, _≤_}
 use lib.ListN.{length, take, drop}
-use Rattle.shapes.specs.All.{All}
 use Rattle.shapes.specs.Lent.{shapeOf}
-use Rattle.book_lines.specs.Book.{RightBlock, RightRule, blocksWord, rulesWord, headLine, blockLine, ruleLine, joined}
+use Rattle.numerals.specs.Digits.{decimal}
+use Rattle.book_lines.specs.Book.{Small, RightBlock, RightRule, textsWord, blocksWord, rulesWord, headLine, blockLine, ruleLine, joined}
 use Rattle.sections.specs.Steps.{State, DepartsFrom}
-use Rattle.sections.specs.Steps.State.{counts, blocks}
+use Rattle.sections.specs.Steps.State.{start, counts, blocks}
 use Rattle.rules.specs.Rule.{rulesOf}
-use Rattle.files.specs.declared.Section.{Section}
-use Rattle.files.specs.declared.Section.the-variants.{Read as section-read, Departs as section-departs}
+use Rattle.sections.specs.declared.Section.{Section}
+use Rattle.sections.specs.declared.Section.the-variants.{Read as section-read, Departs as section-departs}
+use Rattle.sections.specs.Parts.{Items, SectionIs}
 use Rattle.files.specs.declared.Last.{Last}
 use Rattle.files.specs.declared.Last.the-variants.{Read as last-read, Departs as last-departs}
 use Rattle.files.specs.declared.Tail.{Tail}
 use Rattle.files.specs.declared.Tail.the-variants.{Read as tail-read, Departs as tail-departs}
 
--- n items and no more than `most`, each right
-pub record Items {X : Type 0} (most : ℕ) (Right : X → Type 0) (xs : List X) (n : ℕ) : Type 0 where
-  pub few : n ≤ most
-  pub count : length xs ≡ n
-  pub right : All Right xs
-
--- a section with its count, to place m
-pub record SectionIs {X : Type 0} (word : List ℕ) (most : ℕ) (Right : X → Type 0) (text : X → List ℕ) (bytes : List ℕ) (xs : List X) (n m : ℕ) : Type 0 where
-  pub items : Items most Right xs n
-  pub within : m ≤ length bytes
-  pub split : bytes ≡ joined (headLine word n ∷ map text xs) ++ drop m bytes
-
--- a section, the numbers of n lines being the first `size n` of the output; the others stay. s is to come before it.
--- (Here and below, how many lines stand before the one that departs is bounded so that the line's number fits.)
-abbrev pub SectionRead : {X : Type 0} → List ℕ → ℕ → (X → Type 0) → (X → List ℕ) → (List ℕ → List X) → (ℕ → ℕ) → State → List ℕ → List ℕ → List ℕ → Section → Type 0
-SectionRead word most Right text items size s bytes out out′ (section-read n m) =
+-- a section, its items seen as what they mean: the numbers of n lines are the first `size n` of the output; the others stay. s is to come before it.
+abbrev pub SectionSeen : {X : Type 0} → List ℕ → ℕ → (X → Type 0) → (X → List ℕ) → (List ℕ → List X) → (ℕ → ℕ) → State → List ℕ → List ℕ → List ℕ → Section → Type 0
+SectionSeen word most Right text items size s bytes out out′ (section-read n m) =
     SectionIs word most Right text bytes (items (take (size n) out′)) n m × (drop (size n) out′ ≡ drop (size n) out)
-SectionRead word most Right text items size s bytes out out′ (section-departs i) = DepartsFrom s bytes i × (i ≤ most + 1)
+SectionSeen word most Right text items size s bytes out out′ (section-departs i) = DepartsFrom s bytes i × (i ≤ most + 1)
+
+abbrev pub TextsSeen : List ℕ → List ℕ → List ℕ → Section → Type 0
+TextsSeen bytes out out′ r = SectionSeen textsWord 8 Small decimal (λ (xs : List ℕ). xs) (λ (n : ℕ). n) start bytes out out′ r
+
+abbrev pub BlocksSeen : List ℕ → List ℕ → List ℕ → Section → Type 0
+BlocksSeen bytes out out′ r = SectionSeen blocksWord 256 RightBlock blockLine shapeOf (λ (n : ℕ). n * 4) (counts 0) bytes out out′ r
+
+abbrev pub RulesSeen : List ℕ → List ℕ → List ℕ → Section → Type 0
+RulesSeen bytes out out′ r = SectionSeen rulesWord 16 RightRule ruleLine rulesOf (λ (n : ℕ). n * 3) (blocks 0) bytes out out′ r
 
 -- the rules, and nothing after them
 pub record LastIs (bytes rs rs′ : List ℕ) (n : ℕ) : Type 0 where

@@ -1,22 +1,20 @@
 -- A line at the start of bytes, and lines one after another. Assumes nothing.
 use mathlib.Core.Path.{_≡_, refl, sym, ap, _∙_, subst}
 use mathlib.Core.List.{List, [], _∷_, _++_, map, append-assoc}
-use Prim.Native.Nat.{ℕ, suc, _+_, _-_, _*_, _≤_, _<_}
+use Prim.Native.Nat.{ℕ, zero, suc, _+_, _-_, _*_, _≤_, _<_}
+use native.Mathlib.Nat.{zero-add, suc-add}
+use native.Mathlib.Numerals.{add-one}
 use native.Mathlib.Omega.{arith}
 use lib.ListN.{length, take, drop, length-append, length-drop}
-use lib.Seq.{sets, sets-eq, length-sets, take-at, drop-at, drop-drop, length-take-le}
+use lib.Seq.{sets, sets-eq, length-sets, take-at, drop-at, take-nil, take-take, drop-drop, length-take-le}
 use Rattle.shapes.specs.All.All.{none, more}
 use Rattle.shapes.proofs.All.{all-append}
-use Rattle.shapes.specs.Shape.{Block}
-use Rattle.shapes.specs.Lent.{shapeOf, blockOf}
-use Rattle.rules.specs.declared.Rule.{Rule}
 use Rattle.book_lines.specs.Book.{joined}
-use Rattle.rules.specs.Rule.{ruleOf}
 use Rattle.book_lines.specs.Lines.{Without, First, Says, SaysNone}
 use Rattle.book_lines.proofs.Joined.{joined-append, map-more}
 use Rattle.book_lines.proofs.Split.{first-split, first-parts, none-parts}
 use Rattle.sections.specs.Steps.{State, Path, DepartsFrom}
-use Rattle.rules.specs.Rule.{rulesOf}
+use Rattle.sections.specs.Items.{itemsOf}
 use Rattle.sections.specs.Parts.{LineIs, LineIsNone, LinesAre}
 use Rattle.sections.proofs.Steps.{Kind, items-path}
 
@@ -83,6 +81,11 @@ module _ {X : Type 0} {Right : X → Type 0} {text : X → List ℕ} where
 
 -- ---- stores into the output
 
+drop-take : {A : Type 0} (n m : ℕ) (l : List A) → drop n (take (n + m) l) ≡ take m (drop n l)
+drop-take zero m l = ap (λ (k : ℕ). take k l) (zero-add m)
+drop-take (suc n) m [] = ap (drop (suc n)) (take-nil (suc n + m)) ∙ sym (take-nil m)
+drop-take (suc n) m (a ∷ l) = ap (λ (k : ℕ). drop (suc n) (take k (a ∷ l))) (suc-add n m) ∙ drop-take n m l
+
 -- numbers stored past what was read: those read so far and those still as found
 pub record Stored (out out₀ : List ℕ) (at : ℕ) : Type 0 where
   pub long : length out ≡ length out₀
@@ -104,17 +107,34 @@ stored-more out out₀ vs new at next n h e s =
       ap (take next) whole ∙ take-at (take at out ++ vs) (drop (at + length vs) out) next front,
     )
 
-pub shape-more : (xs : List ℕ) (i a b c d : ℕ) → length xs ≡ i * 4 → shapeOf (xs ++ a ∷ b ∷ c ∷ d ∷ []) ≡ shapeOf xs ++ blockOf a b c d ∷ []
-unfolding shapeOf
-shape-more [] i a b c d h = refl
-shape-more (x ∷ []) i a b c d h = absurd (omega arith)
-shape-more (x ∷ (y ∷ [])) i a b c d h = absurd (omega arith)
-shape-more (x ∷ (y ∷ (z ∷ []))) i a b c d h = absurd (omega arith)
-shape-more (x ∷ (y ∷ (z ∷ (w ∷ xs)))) i a b c d h = ap (λ (s : List Block). blockOf x y z w ∷ s) (shape-more xs (i - 1) a b c d (omega arith))
+-- ---- items one after another
 
-pub rules-more : (xs : List ℕ) (i k a b : ℕ) → length xs ≡ i * 3 → rulesOf (xs ++ k ∷ a ∷ b ∷ []) ≡ rulesOf xs ++ ruleOf k a b ∷ []
-unfolding rulesOf
-rules-more [] i k a b h = refl
-rules-more (x ∷ []) i k a b h = absurd (omega arith)
-rules-more (x ∷ (y ∷ [])) i k a b h = absurd (omega arith)
-rules-more (x ∷ (y ∷ (z ∷ xs))) i k a b h = ap (λ (s : List Rule). ruleOf x y z ∷ s) (rules-more xs (i - 1) k a b (omega arith))
+-- n items are the same where their numbers are
+items-same : (k n : ℕ) (xs ys : List ℕ) → take (n * k) xs ≡ take (n * k) ys → itemsOf k n xs ≡ itemsOf k n ys
+unfolding itemsOf
+items-same k zero xs ys e = refl
+items-same k (suc n) xs ys e =
+    let split : suc n * k ≡ k + n * k = omega arith in
+    let both : take (k + n * k) xs ≡ take (k + n * k) ys = subst (λ (m : ℕ). take m xs ≡ take m ys) split e in
+    let first : (l : List ℕ) → take k (take (k + n * k) l) ≡ take k l = λ l. take-take k (k + n * k) l (omega arith) in
+    let rest : (l : List ℕ) → drop k (take (k + n * k) l) ≡ take (n * k) (drop k l) = λ l. drop-take k (n * k) l in
+    λ i. (sym (first xs) ∙ ap (take k) both ∙ first ys) i ∷ items-same k n (drop k xs) (drop k ys) (sym (rest xs) ∙ ap (drop k) both ∙ rest ys) i
+
+items-last : (k n : ℕ) (xs : List ℕ) → itemsOf k (suc n) xs ≡ itemsOf k n xs ++ (take k (drop (n * k) xs) ∷ [])
+unfolding itemsOf
+items-last k zero xs = ap (λ (m : ℕ). take k (drop m xs) ∷ []) (let e : 0 ≡ 0 * k = omega arith in e)
+items-last k (suc n) xs =
+    let at : k + n * k ≡ suc n * k = omega arith in
+    ap (λ (l : List (List ℕ)). take k xs ∷ l)
+    (items-last k n (drop k xs) ∙ ap (λ (l : List ℕ). itemsOf k n (drop k xs) ++ (take k l ∷ [])) (drop-drop (n * k) k xs ∙ ap (λ (m : ℕ). drop m xs) at))
+
+-- an item stored after i others
+pub items-stored : (k i : ℕ) (out new vs : List ℕ) → length vs ≡ k → i * k ≤ length out → take (i * k + k) new ≡ take (i * k) out ++ vs
+    → itemsOf k (i + 1) new ≡ itemsOf k i out ++ vs ∷ []
+items-stored k i out new vs e h s =
+    let long : length (take (i * k) out) ≡ i * k = length-take-le (i * k) out h in
+    let front : take (i * k) new ≡ take (i * k) out
+    = sym (take-take (i * k) (i * k + k) new (omega arith)) ∙ ap (take (i * k)) s ∙ take-at (take (i * k) out) vs (i * k) long in
+    let back : take k (drop (i * k) new) ≡ vs = sym (drop-take (i * k) k new) ∙ ap (drop (i * k)) s ∙ drop-at (take (i * k) out) vs (i * k) long in
+    ap (λ (n : ℕ). itemsOf k n new) (add-one i) ∙ items-last k i new
+    ∙ (λ j. items-same k i new out front j ++ (back j ∷ []))

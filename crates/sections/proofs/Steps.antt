@@ -1,18 +1,19 @@
 -- The grammar line by line: paths joined, parted and gone on with; what is still to come is determined. Assumes nothing.
 use mathlib.Core.Path.{_≡_, refl, sym, ap, _∙_, subst}
-use mathlib.Core.List.{List, [], _∷_, _++_, map}
+use mathlib.Core.List.{List, [], _∷_, _++_, map, append-assoc}
 use Prim.Native.Nat.{ℕ, zero, suc, _+_}
 use native.Mathlib.Omega.{arith}
 use native.Mathlib.Nat.{zero-add, suc-add}
 use lib.Dec.{lit<}
-use lib.ListN.{length, drop}
+use lib.ListN.{length, drop, length-append}
 use lib.Seq.{drop-at}
 use Rattle.shapes.specs.All.{All}
 use Rattle.shapes.specs.All.All.{none, more}
 use Rattle.numerals.specs.Digits.{decimal}
 use Rattle.numerals.proofs.Digits.{decimal-one}
-use Rattle.book_lines.specs.Book.{Small, RightBlock, RightRule, textsWord, blocksWord, rulesWord, headLine, blockLine, ruleLine}
-use Rattle.sections.specs.Steps.{State, HeadTaken, ItemTaken, Takes, Path}
+use Rattle.book_lines.specs.Book.{Small, RightBlock, RightRule, textsWord, blocksWord, rulesWord, headLine, blockLine, ruleLine, joined}
+use Rattle.book_lines.proofs.Joined.{joined-append}
+use Rattle.sections.specs.Steps.{State, HeadTaken, ItemTaken, Takes, Path, DepartsFrom}
 use Rattle.sections.specs.Steps.State.{start, counts, blocks, rules}
 
 -- ---- paths
@@ -132,3 +133,19 @@ goes-on (rules n) = rules-on n
 goes-on (blocks n) = blocks-on n
 goes-on (counts n) = counts-on n
 goes-on start = let p = counts-on 0 in (headLine textsWord 0 ∷ p .0, (counts 0, (0, omega arith, refl, refl), p .1))
+
+-- ---- where a path is stuck
+
+-- lines before, and then stuck after i more
+pub departs-after : (s t : State) (ls : List (List ℕ)) (bytes rest : List ℕ) (i : ℕ) → Path s ls t → bytes ≡ joined ls ++ rest → DepartsFrom t rest i → DepartsFrom s bytes (length ls + i)
+departs-after s t ls bytes rest i p e d =
+    record {
+      lines = ls ++ d .lines;
+      state = d .state;
+      rest = d .rest;
+      path = path-append s t (d .state) ls (d .lines) p (d .path);
+      count = length-append ls (d .lines) ∙ ap (λ (n : ℕ). length ls + n) (d .count);
+      split = e ∙ ap (λ (r : List ℕ). joined ls ++ r) (d .split) ∙ sym (append-assoc (joined ls) (joined (d .lines)) (d .rest))
+          ∙ ap (λ (t : List ℕ). t ++ d .rest) (sym (joined-append ls (d .lines)));
+      stuck = d .stuck;
+    }

@@ -1,3 +1,4 @@
--- The grammar line by line, and what the functions that read a section answer.
+-- The grammar line by line, the items of a section, and what reading them answers.
 pub mod Steps
+pub mod Items
 pub mod Parts

@@ -1,35 +1,32 @@
-// The sections of a book file, each after its count, line by line.
+// A section of a book file: its count, then as many lines, each read into the numbers that it says.
 use book_lines::BlockLine;
 use book_lines::Found;
 use book_lines::Triple;
 use numerals::Number;
-use shapes::Words;
 ghost use mathlib.Core.Path.{_≡_};
-ghost use mathlib.Core.List.{List, [], _∷_};
-ghost use Prim.Native.Nat.{ℕ, _+_, _*_, _≤_};
+ghost use Prim.Native.Nat.{_+_, _*_, _≤_};
 ghost use lib.ListN.{length};
-ghost use lib.Seq.{sets};
-ghost use Rattle.shapes.specs.Lent.{shapeOf};
-ghost use Rattle.numerals.specs.Digits.{decimal};
-ghost use Rattle.book_lines.specs.Book.{Small, RightBlock, RightRule, blockLine, ruleLine};
 ghost use Rattle.book_lines.specs.Lines.{Without};
-ghost use Rattle.sections.specs.Steps.State.{counts as toCounts, blocks as toBlocks, rules as toRules};
-ghost use Rattle.rules.specs.Rule.{rulesOf};
-ghost use Rattle.sections.specs.Parts.{HeadAt, CountAt, BlockHere, RuleHere, LinesRead};
+ghost use Rattle.sections.specs.Items.{sizeOf, wordOf, mostOf};
+ghost use Rattle.sections.specs.declared.Item.the-variants.{Count as count, Block as block, Rule as rule};
+ghost use Rattle.sections.specs.Parts.{HeadAt, LineRead, LineHere, LinesRead, SectionRead};
 
-// A line at the start of some bytes: what it says, and the place past its newline.
+// What a line of a section says: a text's block count, a block, or a rule.
+pub enum Item {
+    Count,
+    Block,
+    Rule,
+}
+
+// A count at the start of some bytes, and the place past its newline.
 pub enum NumberAt {
     Is(u64, usize),
     Not,
 }
 
-pub enum BlockAt {
-    Is(Words, usize),
-    Not,
-}
-
-pub enum RuleAt {
-    Is(u64, u64, u64, usize),
+// A line at the start of some bytes: the place past its newline.
+pub enum LineAt {
+    Ends(usize),
     Not,
 }
 
@@ -39,8 +36,25 @@ pub enum Lines {
     Departs(u64),
 }
 
+// A section: how many lines follow its count and the place past them, or how many lines stand before one departs.
+pub enum Section {
+    Read(usize, usize),
+    Departs(u64),
+}
+
+// How many numbers an item is.
+fn size(item: Item) -> usize
+    ensures { λ r. ⌜ r ≡ sizeOf item ⌝ }
+{
+    match item {
+        Item::Count => 1,
+        Item::Block => 4,
+        Item::Rule => rules::SIZE,
+    }
+}
+
 // A section's count.
-pub fn head_at(bytes: &[u8], word: &[u8], most: u64) -> NumberAt
+fn head_at(bytes: &[u8], word: &[u8], most: u64) -> NumberAt
     requires { ⌜ most ≤ 65535 ⌝ }
     requires { ⌜ Without 10 (now word) ⌝ }
     ensures { λ r. ⌜ HeadAt (now (word .entry)) most (now (bytes .entry)) r ⌝ }
@@ -54,111 +68,113 @@ pub fn head_at(bytes: &[u8], word: &[u8], most: u64) -> NumberAt
     }
 }
 
-// A text's block count.
-fn count_at(bytes: &[u8]) -> NumberAt
-    ensures { λ r. ⌜ CountAt (now (bytes .entry)) r ⌝ }
+fn count_line(line: &[u8], out: &mut [u64], at: usize) -> bool
+    requires { ⌜ at + 1 ≤ length (now out) ⌝ }
+    ensures { λ r. ⌜ LineRead count (now (line .entry)) at (now (out .entry)) (now (out .exit)) r ⌝ }
 {
-    match book_lines::find(bytes, b'\n') {
-        Found::Nothing => NumberAt::Not,
-        Found::At(i) => match numerals::read_decimal(&bytes[..i]) {
-            Number::Not => NumberAt::Not,
-            Number::Is(n) => NumberAt::Is(n, i + 1),
-        },
+    match numerals::read_decimal(line) {
+        Number::Not => false,
+        Number::Is(n) => {
+            out[at] = n;
+            true
+        }
     }
 }
 
-fn block_at(bytes: &[u8]) -> BlockAt
-    ensures { λ r. ⌜ BlockHere (now (bytes .entry)) r ⌝ }
-{
-    match book_lines::find(bytes, b'\n') {
-        Found::Nothing => BlockAt::Not,
-        Found::At(i) => match book_lines::read_block(&bytes[..i]) {
-            BlockLine::Not => BlockAt::Not,
-            BlockLine::Is(w) => BlockAt::Is(w, i + 1),
-        },
-    }
-}
-
-fn rule_at(bytes: &[u8]) -> RuleAt
-    ensures { λ r. ⌜ RuleHere (now (bytes .entry)) r ⌝ }
-{
-    match book_lines::find(bytes, b'\n') {
-        Found::Nothing => RuleAt::Not,
-        Found::At(i) => match book_lines::read_rule(&bytes[..i]) {
-            Triple::Not => RuleAt::Not,
-            Triple::Is(k, a, b) => RuleAt::Is(k, a, b, i + 1),
-        },
-    }
-}
-
-// The four numbers of a block, stored from a place on.
-fn put_block(w: Words, out: &mut [u64], at: usize)
+fn block_line(line: &[u8], out: &mut [u64], at: usize) -> bool
     requires { ⌜ at + 4 ≤ length (now out) ⌝ }
-    ensures { λ _. ⌜ now (out .exit) ≡ sets (now (out .entry)) at (w .low ∷ w .high ∷ w .lower ∷ w .upper ∷ []) ⌝ }
+    ensures { λ r. ⌜ LineRead block (now (line .entry)) at (now (out .entry)) (now (out .exit)) r ⌝ }
 {
-    out[at] = w.low;
-    out[at + 1] = w.high;
-    out[at + 2] = w.lower;
-    out[at + 3] = w.upper;
+    match book_lines::read_block(line) {
+        BlockLine::Not => false,
+        BlockLine::Is(w) => {
+            out[at] = w.low;
+            out[at + 1] = w.high;
+            out[at + 2] = w.lower;
+            out[at + 3] = w.upper;
+            true
+        }
+    }
 }
 
-// The three numbers of a rule, stored from a place on.
-fn put_rule(k: u64, a: u64, b: u64, out: &mut [u64], at: usize)
+fn rule_line(line: &[u8], out: &mut [u64], at: usize) -> bool
     requires { ⌜ at + 3 ≤ length (now out) ⌝ }
-    ensures { λ _. ⌜ now (out .exit) ≡ sets (now (out .entry)) at (k ∷ a ∷ b ∷ []) ⌝ }
+    ensures { λ r. ⌜ LineRead rule (now (line .entry)) at (now (out .entry)) (now (out .exit)) r ⌝ }
 {
-    out[at] = k;
-    out[at + 1] = a;
-    out[at + 2] = b;
+    match book_lines::read_rule(line) {
+        Triple::Not => false,
+        Triple::Is(k, a, b) => {
+            out[at] = k;
+            out[at + 1] = a;
+            out[at + 2] = b;
+            true
+        }
+    }
 }
 
-pub fn read_counts(bytes: &[u8], n: usize, out: &mut [u64]) -> Lines
-    requires { ⌜ n ≤ length (now out) ⌝ }
-    ensures { λ r. ⌜ LinesRead Small decimal (λ (xs : List ℕ). xs) toCounts n n (now (bytes .entry)) (now (out .entry)) (now (out .exit)) r ⌝ }
+// Reads a line's item into the numbers from place `at` on; whether it is one.
+fn read_line(item: Item, line: &[u8], out: &mut [u64], at: usize) -> bool
+    requires { ⌜ at + sizeOf item ≤ length (now out) ⌝ }
+    ensures { λ r. ⌜ LineRead item (now (line .entry)) at (now (out .entry)) (now (out .exit)) r ⌝ }
 {
+    match item {
+        Item::Count => count_line(line, out, at),
+        Item::Block => block_line(line, out, at),
+        Item::Rule => rule_line(line, out, at),
+    }
+}
+
+// The line at the start of some bytes.
+fn line_at(item: Item, bytes: &[u8], out: &mut [u64], at: usize) -> LineAt
+    requires { ⌜ at + sizeOf item ≤ length (now out) ⌝ }
+    ensures { λ r. ⌜ LineHere item (now (bytes .entry)) at (now (out .entry)) (now (out .exit)) r ⌝ }
+{
+    match book_lines::find(bytes, b'\n') {
+        Found::Nothing => LineAt::Not,
+        Found::At(i) => {
+            if read_line(item, &bytes[..i], out, at) {
+                return LineAt::Ends(i + 1);
+            }
+            LineAt::Not
+        }
+    }
+}
+
+// The n lines of a section.
+fn read_lines(item: Item, bytes: &[u8], n: usize, out: &mut [u64]) -> Lines
+    requires { ⌜ n * sizeOf item ≤ length (now out) ⌝ }
+    ensures { λ r. ⌜ LinesRead item n (now (bytes .entry)) (now (out .entry)) (now (out .exit)) r ⌝ }
+{
+    let k = size(item);
     let mut at = 0;
+    let mut place = 0;
     let mut i = 0;
     while i < n {
-        let NumberAt::Is(c, m) = count_at(&bytes[at..]) else {
+        let LineAt::Ends(m) = line_at(item, &bytes[at..], out, place) else {
             return Lines::Departs(i as u64);
         };
-        out[i] = c;
         at += m;
+        place += k;
         i += 1;
     }
     Lines::Read(at)
 }
 
-pub fn read_blocks(bytes: &[u8], n: usize, out: &mut [u64]) -> Lines
-    requires { ⌜ n * 4 ≤ length (now out) ⌝ }
-    ensures { λ r. ⌜ LinesRead RightBlock blockLine shapeOf toBlocks n (n * 4) (now (bytes .entry)) (now (out .entry)) (now (out .exit)) r ⌝ }
+// A whole section. The word and the limit are those of its items.
+pub fn read_section(item: Item, word: &[u8], most: u64, bytes: &[u8], out: &mut [u64]) -> Section
+    requires { ⌜ now word ≡ wordOf item ⌝ }
+    requires { ⌜ most ≡ mostOf item ⌝ }
+    requires { ⌜ mostOf item * sizeOf item ≤ length (now out) ⌝ }
+    ensures { λ r. ⌜ SectionRead item (now (bytes .entry)) (now (out .entry)) (now (out .exit)) r ⌝ }
 {
-    let mut at = 0;
-    let mut i = 0;
-    while i < n {
-        let BlockAt::Is(w, m) = block_at(&bytes[at..]) else {
-            return Lines::Departs(i as u64);
-        };
-        put_block(w, out, i * 4);
-        at += m;
-        i += 1;
+    match head_at(bytes, word, most) {
+        NumberAt::Not => Section::Departs(0),
+        NumberAt::Is(count, m) => {
+            let n = count as usize;
+            match read_lines(item, &bytes[m..], n, out) {
+                Lines::Departs(i) => Section::Departs(i + 1),
+                Lines::Read(k) => Section::Read(n, m + k),
+            }
+        }
     }
-    Lines::Read(at)
-}
-
-pub fn read_rules(bytes: &[u8], n: usize, out: &mut [u64]) -> Lines
-    requires { ⌜ n * 3 ≤ length (now out) ⌝ }
-    ensures { λ r. ⌜ LinesRead RightRule ruleLine rulesOf toRules n (n * 3) (now (bytes .entry)) (now (out .entry)) (now (out .exit)) r ⌝ }
-{
-    let mut at = 0;
-    let mut i = 0;
-    while i < n {
-        let RuleAt::Is(k, a, b, m) = rule_at(&bytes[at..]) else {
-            return Lines::Departs(i as u64);
-        };
-        put_rule(k, a, b, out, i * 3);
-        at += m;
-        i += 1;
-    }
-    Lines::Read(at)
 }

@@ -1,24 +1,30 @@
 -- `files::read_tail`: the blocks, then what stands from the rules on. Assumes nothing.
 use mathlib.Core.Path.{sym, _∙_, subst}
 use mathlib.Core.List.{List}
-use Prim.Native.Nat.{ℕ, _*_}
+use Prim.Native.Nat.{ℕ}
 use native.Mathlib.Omega.{arith}
 use Rattle.book_lines.proofs.Read.{rest-of}
-use Rattle.shapes.specs.Lent.{shapeOf}
-use Rattle.book_lines.specs.Book.{RightBlock, blocksWord, blockLine}
+use Rattle.sections.specs.declared.Section.the-variants.{Read}
 use Rattle.sections.specs.Steps.{DepartsFrom}
-use Rattle.sections.specs.Steps.State.{counts, blocks}
+use Rattle.sections.specs.Steps.State.{blocks}
 use Rattle.sections.proofs.Steps.{blocks-kind}
-use Rattle.files.specs.declared.Section.the-variants.{Read}
-use Rattle.files.specs.Parts.{SectionRead, LastRead}
-use Rattle.files.proofs.Sections.{blocks-head, after-section}
+use Rattle.sections.proofs.Sections.{blocks-head, after-section}
+use Rattle.files.specs.Parts.{BlocksSeen, LastRead}
+use Rattle.files.proofs.Seen.{blocks-section-seen}
 use Rattle.files.proofs.Whole.{joined-on}
 use borrow.Author.Needs.{needs}
 use Rattle.files.proofs.read_tail.Statement.{statement}
 use Rattle.files.proofs.read_tail.Tie as tie
 
-blocks-section-requires : tie.Need-blocks-section-requires
-blocks-section-requires c κs = search needs
+slice-aggregate-read-section : tie.Need-slice-aggregate-read-section
+slice-aggregate-read-section c = search needs
+
+read-section-requires : tie.Need-read-section-requires
+read-section-requires c κs = search needs
+
+-- what the section is
+seen : (c : tie.After-read-section) → let a = c .before .before .before .before .before .before .args in BlocksSeen (a .bytes .now) (a .blocks .now) (c .read-section .last .1 .1 .1 .1 .0) (c .read-section .result)
+seen c = let s = c .before .before .before .before .before .before in blocks-section-seen (s .args .bytes .now) (s .args .blocks .now) _ (c .read-section .kept .1 .1 .1 .1 .0) (c .read-section .result) (s .pre .0) (c .read-section .ensures)
 
 enum-known-i : tie.Need-enum-known-i
 enum-known-i c = search needs
@@ -26,11 +32,10 @@ enum-known-i c = search needs
 enum-known-n : tie.Need-enum-known-n
 enum-known-n c = search needs
 
--- the blocks
-section : (c : tie.After-n)
-    → SectionRead blocksWord 256 RightBlock blockLine shapeOf (λ (n : ℕ). n * 4) (counts 0) (c .before .before .before .before .before .before .before .before .before .args .bytes .now) (c .before .before .before .before .before .before .before .before .before .args .blocks .now) (c .before .before .before .before .blocks-section .last .1 .0)
-    (Read (c .n .given .0 .0) (c .n .given .0 .1 .0))
-section c = subst (SectionRead blocksWord 256 RightBlock blockLine shapeOf (λ (n : ℕ). n * 4) (counts 0) _ _ _) (c .n .given .1) (c .before .before .before .before .blocks-section .ensures)
+-- where it is read
+section : (c : tie.After-n) → let a = c .before .before .before .before .before .before .before .before .before .before .args in
+    BlocksSeen (a .bytes .now) (a .blocks .now) (c .before .before .before .before .read-section .last .1 .1 .1 .1 .0) (Read (c .n .given .0 .0) (c .n .given .0 .1 .0))
+section c = subst (BlocksSeen _ _ _) (c .n .given .1) (seen (c .before .before .before .before))
 
 sub-read-last : tie.Need-sub-read-last
 sub-read-last c = section (c .before) .0 .within
@@ -47,11 +52,11 @@ read-last-requires c κs = search needs
 enum-known-i-2 : tie.Need-enum-known-i-2
 enum-known-i-2 c = search needs
 
-add-t22 : tie.Need-add-t22
-add-t22 c = let few = section (c .before .before .before .before .before .before .before .before .before) .0 .items .few in let d = subst (LastRead _ _ _) (c .before .i2 .given .1) (c .before .before .before .before .before .read-last .ensures) .1 in omega arith
+add-t26 : tie.Need-add-t26
+add-t26 c = let few = section (c .before .before .before .before .before .before .before .before .before) .0 .items .few in let d = subst (LastRead _ _ _) (c .before .i2 .given .1) (c .before .before .before .before .before .read-last .ensures) .1 in omega arith
 
-add-t23 : tie.Need-add-t23
-add-t23 c = let few = section (c .before .before .before .before .before .before .before .before .before) .0 .items .few in let d = subst (LastRead _ _ _) (c .before .i2 .given .1) (c .before .before .before .before .before .read-last .ensures) .1 in omega arith
+add-t27 : tie.Need-add-t27
+add-t27 c = let few = section (c .before .before .before .before .before .before .before .before .before) .0 .items .few in let d = subst (LastRead _ _ _) (c .before .i2 .given .1) (c .before .before .before .before .before .read-last .ensures) .1 in omega arith
 
 enum-known-k : tie.Need-enum-known-k
 enum-known-k c = search needs
@@ -60,7 +65,7 @@ same-length : tie.Need-same-length
 same-length c = search needs
 
 returns : tie.Need-returns
-returns c = let d = subst (SectionRead blocksWord 256 RightBlock blockLine shapeOf (λ (n : ℕ). n * 4) (counts 0) _ _ _) (c .before .i .given .1) (c .before .before .before .before .before .blocks-section .ensures) in let k = d .1 in (d .0, omega arith)
+returns c = let d = subst (BlocksSeen _ _ _) (c .before .i .given .1) (seen (c .before .before .before .before .before)) in let k = d .1 in (d .0, omega arith)
 
 same-length-2 : tie.Need-same-length-2
 same-length-2 c = search needs
@@ -70,12 +75,15 @@ same-length-3 c = search needs
 
 returns-2 : tie.Need-returns-2
 returns-2 c =
-    let s = section (c .before .before .before .before .before .before .before .before .before) in
+    let at = c .before .before .before .before .before .before .before .before .before in
+    let s = section at in
     let few = s .0 .items .few in
-    let bytes = c .before .before .before .before .before .before .before .before .before .before .before .before .before .before .before .before .before .before .args .bytes .now in
+    let bytes = c .before .before .before .before .before .before .before .before .before .before .before .before .before .before .before .before .before .before .before .args .bytes .now in
+    let n = at .n .given .0 in
+    let i = c .before .i2 .given .0 .0 in
     let d = subst (LastRead _ _ _) (c .before .i2 .given .1) (c .before .before .before .before .before .read-last .ensures) in
     let k = d .1 in
-    (after-section blocks-head blocks-kind bytes _ (c .before .before .before .before .before .before .before .before .before .n .given .0 .0) (c .before .before .before .before .before .before .before .before .before .n .given .0 .1 .0) (c .before .i2 .given .0 .0) (s .0) (subst (λ (t : List ℕ). DepartsFrom (blocks 0) t (c .before .i2 .given .0 .0)) (rest-of bytes (c .before .before .before .before .before .before .before .before .before .n .given .0 .1 .0)) (d .0)), omega arith)
+    (after-section blocks-head blocks-kind bytes _ (n .0) (n .1 .0) i (s .0) (subst (λ (t : List ℕ). DepartsFrom (blocks 0) t i) (rest-of bytes (n .1 .0)) (d .0)), omega arith)
 
 same-length-4 : tie.Need-same-length-4
 same-length-4 c = search needs
@@ -85,13 +93,15 @@ same-length-5 c = search needs
 
 returns-3 : tie.Need-returns-3
 returns-3 c =
-    let s = section (c .before .before .before .before .before .before .before .before .before) in
-    let bytes = c .before .before .before .before .before .before .before .before .before .before .before .before .before .before .before .before .before .before .args .bytes .now in
+    let at = c .before .before .before .before .before .before .before .before .before in
+    let s = section at in
+    let bytes = c .before .before .before .before .before .before .before .before .before .before .before .before .before .before .before .before .before .before .before .args .bytes .now in
+    let m = at .n .given .0 .1 .0 in
     let l = subst (LastRead _ _ _) (c .before .k .given .1) (c .before .before .before .before .before .read-last .ensures) in
     record {
       blocks-are = s .0 .items;
       rules-are = l .items;
-      whole = joined-on bytes _ _ (c .before .before .before .before .before .before .before .before .before .n .given .0 .1 .0) (s .0 .split) (sym (rest-of bytes (c .before .before .before .before .before .before .before .before .before .n .given .0 .1 .0)) ∙ l .whole);
+      whole = joined-on bytes _ _ m (s .0 .split) (sym (rest-of bytes m) ∙ l .whole);
       blocks-stay = s .1;
       rules-stay = l .stays;
     }
@@ -100,7 +110,8 @@ pub read-tail-spec : {M : Type 1} → statement M
 read-tail-spec =
     tie.close
     (tie.spec
-    blocks-section-requires
+    slice-aggregate-read-section
+    read-section-requires
     enum-known-i
     enum-known-n
     sub-read-last
@@ -108,8 +119,8 @@ read-tail-spec =
     part-read-last-end
     read-last-requires
     enum-known-i-2
-    add-t22
-    add-t23
+    add-t26
+    add-t27
     enum-known-k
     same-length
     returns

@@ -7,12 +7,10 @@ use native.Mathlib.Nat.{add-zero}
 use lib.ListN.{length, drop, length-drop}
 use lib.Seq.{drop-drop}
 use Rattle.book_lines.specs.Book.{textsWord, blocksWord, rulesWord, headLine, joined}
 use Rattle.sections.specs.Steps.{State, HeadTaken, Takes, Path, DepartsFrom}
 use Rattle.sections.specs.Steps.State.{start, counts, blocks, rules}
-use Rattle.sections.specs.Parts.{LineIs, LineIsNone, LinesAre}
-use Rattle.sections.proofs.Steps.{Kind, items-path, start-ends, counts-end, blocks-end}
-use Rattle.files.specs.Parts.{Items, SectionIs}
-use Rattle.files.proofs.Book.{departs-after}
+use Rattle.sections.specs.Parts.{LineIs, LineIsNone, LinesAre, Items, SectionIs}
+use Rattle.sections.proofs.Steps.{Kind, items-path, start-ends, counts-end, blocks-end, departs-after}
 
 -- s is to come, and a count of at most `most` after the word leads on to a section
 pub record Head (word : List ℕ) (most : ℕ) (s : State) (section : ℕ → State) : Type 0 where
