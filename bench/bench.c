@@ -1,4 +1,4 @@
-// Times the proved calls beside plain C functions of the same method, in one run, and prints each ratio. First both sides' answers are compared.
+// Times the proved calls beside the plain C functions, in one run, and prints each ratio. First the answers of all sides are compared.
 #include "plain.h"
 #include <stdio.h>
 #include <stdlib.h>
@@ -6,20 +6,26 @@
 #include <time.h>
 
 // The proved calls: a slice is a pointer and a length.
-uint64_t wedgeotter_fits(const uint64_t *shape, size_t n, const uint8_t *text, size_t k);
 uint64_t wedgeotter_least(const uint64_t *shape, size_t n, uint8_t *out, size_t k);
 uint64_t wedgeotter_sweep(const uint64_t *x, size_t n, const uint64_t *y, size_t m, uint64_t *out, size_t k);
-uint64_t wedgeotter_equal(const uint64_t *x, size_t n, const uint64_t *y, size_t m, uint8_t *work, size_t w, uint64_t *ox, size_t a, uint64_t *oy, size_t b);
-uint64_t wedgeotter_at_most(const uint64_t *x, size_t n, const uint64_t *y, size_t m, uint8_t *work, size_t w, uint64_t *ox, size_t a, uint64_t *oy, size_t b);
-uint64_t wedgeotter_before(const uint64_t *x, size_t n, const uint64_t *y, size_t m, uint8_t *work, size_t w, uint64_t *ox, size_t a, uint64_t *oy, size_t b);
-uint64_t wedgeotter_book(const uint64_t *counts, size_t n, uint64_t *blocks, size_t b, const uint64_t *rules, size_t r, uint8_t *work, size_t w);
-uint64_t wedgeotter_file(const uint8_t *file, size_t n, uint8_t *report, size_t k);
+fitting wedgeotter_fits;
+narrowing wedgeotter_equal, wedgeotter_at_most, wedgeotter_before;
+running wedgeotter_book;
+filing wedgeotter_file;
 
-typedef uint64_t narrowing(const uint64_t *, size_t, const uint64_t *, size_t, uint8_t *, size_t, uint64_t *, size_t, uint64_t *, size_t);
+// The proved call, plain C with byte tables, plain C with rows of bits.
+#define SIDES 3
+static fitting *const fits_of[SIDES] = {wedgeotter_fits, plain_fits, rows_fits};
+static running *const book_of[SIDES] = {wedgeotter_book, plain_book, rows_book};
+static filing *const file_of[SIDES] = {wedgeotter_file, plain_file, rows_file};
 
-static narrowing *const ours_of[] = {wedgeotter_equal, wedgeotter_at_most, wedgeotter_before};
-static narrowing *const plain_of[] = {plain_equal, plain_at_most, plain_before};
-static const char *const kind_of[] = {"equal", "at most", "before"};
+#define KINDS 3
+static const char *const kind_of[KINDS] = {"equal", "at most", "before"};
+static narrowing *const narrow_of[KINDS][SIDES] = {
+    {wedgeotter_equal, plain_equal, rows_equal},
+    {wedgeotter_at_most, plain_at_most, rows_at_most},
+    {wedgeotter_before, plain_before, rows_before},
+};
 
 static double now(void) {
     struct timespec t;
@@ -37,14 +43,16 @@ static uint64_t rnd(uint64_t n) {
 
 static void same(int yes, const char *what) {
     if (yes) return;
-    printf("the two sides differ: %s\n", what);
+    printf("the sides differ: %s\n", what);
     exit(1);
 }
 
-static void show(const char *what, const char *size, double ours, double plain) {
+// Our time, and those of so many plain C functions, each with the ratio of ours to it.
+static void show(const char *what, const char *size, int sides, const double *best) {
     char line[80];
     snprintf(line, sizeof line, "%s, %s", what, size);
-    printf("%-38s %11.0f ns %11.0f ns %6.2f", line, ours, plain, ours / plain);
+    printf("%-37s %9.0f ns", line, best[0]);
+    for (int side = 1; side < sides; side++) printf(" %9.0f ns %6.2f", best[side], best[0] / best[side]);
 }
 
 // A random shape of so many blocks and so many characters at most.
@@ -66,7 +74,7 @@ static uint8_t text[SHAPES][250], work[63001];
 static size_t long_[SHAPES];
 static volatile uint64_t sink;
 
-// Turns for so many seconds, three at the least, each with a timing of either side.
+// Turns for so many seconds, three at the least, each with a timing of every side.
 #define TURNS(seconds) for (double turn = 0, end = now() + (seconds) * 1e9; turn < 3 || now() < end; turn++)
 
 // One timing of a job on the cases from i0 on, kept if it is the least so far.
@@ -91,17 +99,17 @@ static void bounds(const char *size, size_t blocks, uint64_t most) {
         long_[i] = plain_least(shape[i], length[i], text[i], 250);
         same(wedgeotter_least(shape[i], length[i], out, 250) == long_[i] && memcmp(out, text[i], long_[i]) == 0, "least text");
         if (rnd(2) && long_[i]) text[i][rnd(long_[i])] = 97 + rnd(4);
-        same(wedgeotter_fits(shape[i], length[i], text[i], long_[i]) == plain_fits(shape[i], length[i], text[i], long_[i]), "fits");
+        uint64_t ours = wedgeotter_fits(shape[i], length[i], text[i], long_[i]);
+        for (int side = 1; side < SIDES; side++) same(ours == fits_of[side](shape[i], length[i], text[i], long_[i]), "fits");
     }
-    double best[4] = {0};
+    double fits[SIDES] = {0}, least[2] = {0};
     TURNS(1) {
-        TIME(best[0], 0, SHAPES, wedgeotter_fits(shape[i], length[i], text[i], long_[i]));
-        TIME(best[1], 0, SHAPES, plain_fits(shape[i], length[i], text[i], long_[i]));
-        TIME(best[2], 0, SHAPES, wedgeotter_least(shape[i], length[i], out, 250));
-        TIME(best[3], 0, SHAPES, plain_least(shape[i], length[i], out, 250));
+        for (int side = 0; side < SIDES; side++) TIME(fits[side], 0, SHAPES, fits_of[side](shape[i], length[i], text[i], long_[i]));
+        TIME(least[0], 0, SHAPES, wedgeotter_least(shape[i], length[i], out, 250));
+        TIME(least[1], 0, SHAPES, plain_least(shape[i], length[i], out, 250));
     }
-    show("fits", size, best[0], best[1]), puts("");
-    show("least text", size, best[2], best[3]), puts("");
+    show("fits", size, SIDES, fits), puts("");
+    show("least text", size, 2, least), puts("");
 }
 
 #define NEXT ((i + 1) % SHAPES)
@@ -121,7 +129,7 @@ static void sweeps(const char *size, size_t blocks, uint64_t most) {
         TIME(best[0], 0, SHAPES, wedgeotter_sweep(shape[i], length[i], shape[NEXT], length[NEXT], a, 64));
         TIME(best[1], 0, SHAPES, plain_sweep(shape[i], length[i], shape[NEXT], length[NEXT], b, 64));
     }
-    show("sweep", size, best[0], best[1]), puts("");
+    show("sweep", size, 2, best), puts("");
 }
 
 static uint64_t other[SHAPES][128];
@@ -143,32 +151,37 @@ static size_t make_tight(uint64_t *s, const uint64_t *x, size_t n) {
 
 #define PAIR shape[i], length[i], other[i], other_length[i], work, sizeof work
 
-// Narrowing of each shape against the next one, or a tight one, under each relation on the same pairs; after the ratio to plain C that to our equality, and how many
-// pairs are not none.
+// Narrowing of each shape against the next one, or a tight one, under each relation on the same pairs, in the mean over them; after the ratios to plain C that to our
+// equality, and how many pairs are not none.
 static void narrows(const char *size, size_t blocks, uint64_t most, int tight) {
-    uint64_t a[128], b[128], c[128], d[128], some[3] = {0};
+    uint64_t a[128], b[128], c[128], d[128], some[KINDS] = {0};
     for (int i = 0; i < SHAPES; i++) length[i] = make(shape[i], blocks, most);
     for (int i = 0; i < SHAPES; i++) {
         memcpy(other[i], shape[NEXT], sizeof other[i]);
         other_length[i] = tight ? make_tight(other[i], shape[i], length[i]) : length[NEXT];
     }
-    for (int kind = 0; kind < 3; kind++)
+    for (int kind = 0; kind < KINDS; kind++)
         for (int i = 0; i < SHAPES; i++) {
-            memset(a, 0, sizeof a), memset(b, 0, sizeof b), memset(c, 0, sizeof c), memset(d, 0, sizeof d);
-            uint64_t ours = ours_of[kind](PAIR, a, 128, b, 128), plain = plain_of[kind](PAIR, c, 128, d, 128);
-            same(ours == plain && memcmp(a, c, sizeof a) == 0 && memcmp(b, d, sizeof b) == 0, kind_of[kind]);
+            memset(a, 0, sizeof a), memset(b, 0, sizeof b);
+            uint64_t ours = narrow_of[kind][0](PAIR, a, 128, b, 128);
+            for (int side = 1; side < SIDES; side++) {
+                memset(c, 0, sizeof c), memset(d, 0, sizeof d);
+                uint64_t plain = narrow_of[kind][side](PAIR, c, 128, d, 128);
+                same(ours == plain && memcmp(a, c, sizeof a) == 0 && memcmp(b, d, sizeof b) == 0, kind_of[kind]);
+            }
             some[kind] += ours;
         }
-    double best[3][2][SHAPES] = {{{0}}};
+    static double best[KINDS][SIDES][SHAPES];
+    double means[KINDS][SIDES];
+    memset(best, 0, sizeof best);
     TURNS(4)
-        for (int kind = 0; kind < 3; kind++)
-            for (int k = 0; k < SHAPES; k++) {
-                TIME(best[kind][0][k], k, 1, ours_of[kind](PAIR, a, 128, b, 128));
-                TIME(best[kind][1][k], k, 1, plain_of[kind](PAIR, a, 128, b, 128));
-            }
-    for (int kind = 0; kind < 3; kind++) {
-        show(kind_of[kind], size, mean(best[kind][0]), mean(best[kind][1]));
-        printf(" %6.2f  %d of %d narrow\n", mean(best[kind][0]) / mean(best[0][0]), (int)some[kind], SHAPES);
+        for (int kind = 0; kind < KINDS; kind++)
+            for (int k = 0; k < SHAPES; k++)
+                for (int side = 0; side < SIDES; side++) TIME(best[kind][side][k], k, 1, narrow_of[kind][side](PAIR, a, 128, b, 128));
+    for (int kind = 0; kind < KINDS; kind++) {
+        for (int side = 0; side < SIDES; side++) means[kind][side] = mean(best[kind][side]);
+        show(kind_of[kind], size, SIDES, means[kind]);
+        printf(" %8.2f  %d of %d narrow\n", means[kind][0] / means[0][0], (int)some[kind], SHAPES);
     }
 }
 
@@ -221,21 +234,17 @@ static void make_book(size_t blocks, uint64_t most) {
 static uint64_t left[1024];
 
 // Each run begins with the blocks as entered.
-static uint64_t ours_book(void) {
+static uint64_t run_anew(running *run) {
     memcpy(left, entered, sizeof left);
-    return wedgeotter_book(counts, 8, left, numbers, rules, 48, work, sizeof work);
+    return run(counts, 8, left, numbers, rules, 48, work, sizeof work);
 }
 
-static uint64_t plain_book_again(void) {
-    memcpy(left, entered, sizeof left);
-    return plain_book(counts, 8, left, numbers, rules, 48, work, sizeof work);
-}
-
-static uint8_t file[16384], report[2][16384];
+static uint8_t file[16384], report[SIDES][16384];
 
 static void same_files(size_t n) {
     uint64_t ours = wedgeotter_file(file, n, report[0], sizeof report[0]);
-    same(ours == plain_file(file, n, report[1], sizeof report[1]) && memcmp(report[0], report[1], sizeof report[0]) == 0, "file");
+    for (int side = 1; side < SIDES; side++)
+        same(ours == file_of[side](file, n, report[side], sizeof report[side]) && memcmp(report[0], report[side], sizeof report[0]) == 0, "file");
 }
 
 // The book as a file, also with one byte altered and cut short, which most often is refused.
@@ -258,34 +267,32 @@ static void files(const char *size) {
         file[at] = was;
         same_files(rnd(n));
     }
-    double best[2] = {0};
-    TURNS(2) {
-        TIME(best[0], 0, 1, wedgeotter_file(file, n, report[0], sizeof report[0]));
-        TIME(best[1], 0, 1, plain_file(file, n, report[1], sizeof report[1]));
-    }
-    show("file", size, best[0], best[1]);
-    printf("         %d applications, %d bytes\n", (int)made, (int)n);
+    double best[SIDES] = {0};
+    TURNS(2)
+        for (int side = 0; side < SIDES; side++) TIME(best[side], 0, 1, file_of[side](file, n, report[side], sizeof report[side]));
+    show("file", size, SIDES, best);
+    printf("           %d applications, %d bytes\n", (int)made, (int)n);
 }
 
-// A book run by both.
+// A book run by all sides.
 static void books(const char *size, size_t blocks, uint64_t most) {
     static uint64_t kept[1024];
     make_book(blocks, most);
-    uint64_t ours = ours_book();
+    uint64_t ours = run_anew(wedgeotter_book);
     memcpy(kept, left, sizeof kept);
-    same(ours == plain_book_again() && memcmp(kept, left, sizeof kept) == 0, "book");
-    double best[2] = {0};
-    TURNS(2) {
-        TIME(best[0], 0, 1, ours_book());
-        TIME(best[1], 0, 1, plain_book_again());
-    }
-    show("book", size, best[0], best[1]);
-    printf("         %d applications\n", (int)made);
+    for (int side = 1; side < SIDES; side++) same(ours == run_anew(book_of[side]) && memcmp(kept, left, sizeof kept) == 0, "book");
+    double best[SIDES] = {0};
+    TURNS(2)
+        for (int side = 0; side < SIDES; side++) TIME(best[side], 0, 1, run_anew(book_of[side]));
+    show("book", size, SIDES, best);
+    printf("           %d applications\n", (int)made);
     files(size);
 }
 
 int main(void) {
-    printf("%-38s %14s %14s %6s %s\n", "per call, the least of several turns", "ours", "plain C", "ratio", "to equal");
+    puts("Times per call, the least of several turns, in the mean over the inputs: ours is the proved call, bytes plain C with byte tables, rows plain C with rows of bits.");
+    puts("After each plain C the ratio of ours to it; for narrowing then the ratio of ours to our equality on the same pairs. Least text and sweep have one plain C.");
+    printf("%-37s %12s %12s %6s %12s %6s %8s\n", "", "ours", "bytes", "ratio", "rows", "ratio", "to equal");
     bounds("8 blocks, 40 characters", 8, 40);
     bounds("32 blocks, 250 characters", 32, 250);
     sweeps("8 blocks", 8, 40);

@@ -1,4 +1,4 @@
-// Plain C functions of the same methods as the proved calls.
+// Plain C functions of the calls, narrowing with byte tables over pairs of positions.
 #include "plain.h"
 #include <string.h>
 
@@ -17,7 +17,7 @@ static uint64_t check_blocks(const uint64_t *s, size_t n, uint64_t *block) {
     return total <= 250 ? 0 : 3;
 }
 
-static int plain_check(const uint64_t *s, size_t n) {
+int plain_check(const uint64_t *s, size_t n) {
     uint64_t block;
     return n % 4 == 0 && n != 0 && n <= 128 && check_blocks(s, n, &block) == 0;
 }
@@ -73,6 +73,8 @@ uint64_t plain_least(const uint64_t *s, size_t n, uint8_t *out, size_t k) {
     if (!plain_check(s, n) || k < 250) return 1000;
     return extreme(0, s, n, out);
 }
+
+size_t plain_extreme(int up, const uint64_t *s, size_t n, uint8_t *out) { return extreme(up, s, n, out); }
 
 // The quick sweep by document 01's steps. Places are block numbers from 1 and offsets.
 struct place {
@@ -145,7 +147,7 @@ uint64_t plain_sweep(const uint64_t *x, size_t nx, const uint64_t *y, size_t ny,
     return looks;
 }
 
-// Narrowing under equality with a byte table over pairs of positions, 251 to a row, as the proved code has it.
+// Narrowing under equality with a byte table over pairs of positions, 251 to a row.
 struct slot {
     uint64_t low, high, lower, upper;
 };
@@ -347,7 +349,7 @@ struct refusal plain_check_book(const uint64_t *counts, size_t texts, const uint
 }
 
 // The rounds of a checked book, on a copy of the blocks.
-uint64_t plain_rounds(const uint64_t *counts, size_t texts, uint64_t *blocks, size_t nb, const uint64_t *rules, size_t nr, uint8_t *t, size_t w) {
+uint64_t run_rounds(narrowing_by_kind *narrow, const uint64_t *counts, size_t texts, uint64_t *blocks, size_t nb, const uint64_t *rules, size_t nr, uint8_t *t) {
     uint64_t copy[1024], x[128], y[128], *at[9] = {copy}, made = 0;
     memcpy(copy, blocks, nb * sizeof *copy);
     memset(t, 0, 63001);
@@ -357,9 +359,7 @@ uint64_t plain_rounds(const uint64_t *counts, size_t texts, uint64_t *blocks, si
         for (size_t j = 0; j < nr; j += 3) {
             uint64_t *a = at[rules[j + 1] - 1], *b = at[rules[j + 2] - 1];
             size_t n = 4 * counts[rules[j + 1] - 1], m = 4 * counts[rules[j + 2] - 1];
-            uint64_t some;
-            if (rules[j] == 0) some = plain_equal(a, n, b, m, t, w, x, 128, y, 128);
-            else some = order(rules[j] == 2, a, n, b, m, t, w, x, 128, y, 128);
+            uint64_t some = narrow(rules[j], a, n, b, m, t, x, y);
             made++;
             if (some != 1) return made | NONE;
             if (memcmp(a, x, n * sizeof *x) == 0 && memcmp(b, y, m * sizeof *y) == 0) continue;
@@ -372,7 +372,16 @@ uint64_t plain_rounds(const uint64_t *counts, size_t texts, uint64_t *blocks, si
     return made;
 }
 
-uint64_t plain_book(const uint64_t *counts, size_t texts, uint64_t *blocks, size_t nb, const uint64_t *rules, size_t nr, uint8_t *t, size_t w) {
+uint64_t run_book(narrowing_by_kind *narrow, const uint64_t *counts, size_t texts, uint64_t *blocks, size_t nb, const uint64_t *rules, size_t nr, uint8_t *t, size_t w) {
     if (plain_check_book(counts, texts, blocks, nb, rules, nr, w).number) return REFUSED;
-    return plain_rounds(counts, texts, blocks, nb, rules, nr, t, w);
+    return run_rounds(narrow, counts, texts, blocks, nb, rules, nr, t);
+}
+
+uint64_t plain_by_kind(uint64_t kind, const uint64_t *x, size_t nx, const uint64_t *y, size_t ny, uint8_t *t, uint64_t *ox, uint64_t *oy) {
+    if (kind == 0) return plain_equal(x, nx, y, ny, t, 63001, ox, nx, oy, ny);
+    return order(kind == 2, x, nx, y, ny, t, 63001, ox, nx, oy, ny);
+}
+
+uint64_t plain_book(const uint64_t *counts, size_t texts, uint64_t *blocks, size_t nb, const uint64_t *rules, size_t nr, uint8_t *t, size_t w) {
+    return run_book(plain_by_kind, counts, texts, blocks, nb, rules, nr, t, w);
 }

@@ -1,23 +1,36 @@
-// The plain C functions that the benchmark compares with: each answers as the proved call of its name does.
+// The plain C functions that the benchmark compares with: each answers as the proved call of its name does. Those in plain.c narrow with byte tables, those in
+// rows.c with rows of bits.
 #include <stddef.h>
 #include <stdint.h>
+
+typedef uint64_t fitting(const uint64_t *s, size_t n, const uint8_t *t, size_t k);
+typedef uint64_t narrowing(const uint64_t *x, size_t nx, const uint64_t *y, size_t ny, uint8_t *t, size_t w, uint64_t *ox, size_t a, uint64_t *oy, size_t b);
+typedef uint64_t running(const uint64_t *counts, size_t texts, uint64_t *blocks, size_t nb, const uint64_t *rules, size_t nr, uint8_t *t, size_t w);
+typedef uint64_t filing(const uint8_t *file, size_t n, uint8_t *report, size_t k);
+
+// The applications of a run, with NONE where it ends so, or REFUSED.
+#define NONE 1048576
+#define REFUSED 2097152
+
+uint64_t plain_least(const uint64_t *s, size_t n, uint8_t *out, size_t k);
+uint64_t plain_sweep(const uint64_t *x, size_t nx, const uint64_t *y, size_t ny, uint64_t *out, size_t k);
+fitting plain_fits, rows_fits;
+narrowing plain_equal, plain_at_most, plain_before, rows_equal, rows_at_most, rows_before;
+running plain_book, rows_book;
+filing plain_file, rows_file;
+
+// What both share: whether lent numbers are a shape, the extreme texts of one, a book and its file run with either's narrowing of checked shapes.
+int plain_check(const uint64_t *s, size_t n);
+size_t plain_extreme(int up, const uint64_t *s, size_t n, uint8_t *out);
 
 // What a refusal tells; number 0 is none.
 struct refusal {
     uint64_t number, text, place;
 };
-
-uint64_t plain_fits(const uint64_t *s, size_t n, const uint8_t *t, size_t k);
-uint64_t plain_least(const uint64_t *s, size_t n, uint8_t *out, size_t k);
-uint64_t plain_sweep(const uint64_t *x, size_t nx, const uint64_t *y, size_t ny, uint64_t *out, size_t k);
-uint64_t plain_equal(const uint64_t *x, size_t nx, const uint64_t *y, size_t ny, uint8_t *t, size_t w, uint64_t *ox, size_t a, uint64_t *oy, size_t b);
-uint64_t plain_at_most(const uint64_t *x, size_t nx, const uint64_t *y, size_t ny, uint8_t *t, size_t w, uint64_t *ox, size_t a, uint64_t *oy, size_t b);
-uint64_t plain_before(const uint64_t *x, size_t nx, const uint64_t *y, size_t ny, uint8_t *t, size_t w, uint64_t *ox, size_t a, uint64_t *oy, size_t b);
-
-// The applications made, with NONE where the run ends so, or REFUSED.
-#define NONE 1048576
-#define REFUSED 2097152
 struct refusal plain_check_book(const uint64_t *counts, size_t texts, const uint64_t *blocks, size_t nb, const uint64_t *rules, size_t nr, size_t w);
-uint64_t plain_rounds(const uint64_t *counts, size_t texts, uint64_t *blocks, size_t nb, const uint64_t *rules, size_t nr, uint8_t *t, size_t w);
-uint64_t plain_book(const uint64_t *counts, size_t texts, uint64_t *blocks, size_t nb, const uint64_t *rules, size_t nr, uint8_t *t, size_t w);
-uint64_t plain_file(const uint8_t *file, size_t n, uint8_t *report, size_t k);
+
+typedef uint64_t narrowing_by_kind(uint64_t kind, const uint64_t *x, size_t nx, const uint64_t *y, size_t ny, uint8_t *t, uint64_t *ox, uint64_t *oy);
+narrowing_by_kind plain_by_kind;
+uint64_t run_rounds(narrowing_by_kind *narrow, const uint64_t *counts, size_t texts, uint64_t *blocks, size_t nb, const uint64_t *rules, size_t nr, uint8_t *t);
+uint64_t run_book(narrowing_by_kind *narrow, const uint64_t *counts, size_t texts, uint64_t *blocks, size_t nb, const uint64_t *rules, size_t nr, uint8_t *t, size_t w);
+uint64_t run_file(narrowing_by_kind *narrow, const uint8_t *file, size_t n, uint8_t *report, size_t k);

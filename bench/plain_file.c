@@ -72,14 +72,14 @@ static uint8_t *put_hex(uint8_t *to, uint64_t n) {
     return to;
 }
 
-uint64_t plain_file(const uint8_t *file, size_t n, uint8_t *report, size_t k) {
+uint64_t run_file(narrowing_by_kind *narrow, const uint8_t *file, size_t n, uint8_t *report, size_t k) {
     static uint8_t work[63001];
     static uint64_t counts[8], blocks[1024], rules[48];
     uint64_t sizes[3];
     struct reader r = {file, file + n};
     if (n > 16384 || !book(&r, sizes, counts, blocks, rules)) return REFUSED;
     if (plain_check_book(counts, sizes[0], blocks, 4 * sizes[1], rules, 3 * sizes[2], sizeof work).number || k < 16384) return REFUSED;
-    uint64_t made = plain_rounds(counts, sizes[0], blocks, 4 * sizes[1], rules, 3 * sizes[2], work, sizeof work);
+    uint64_t made = run_rounds(narrow, counts, sizes[0], blocks, 4 * sizes[1], rules, 3 * sizes[2], work);
     if (made & NONE) return put_decimal(put(report, "NONE "), made ^ NONE, '\n') - report;
     uint8_t *to = put_decimal(put(report, "STABLE "), made, '\n');
     to = put_decimal(put(to, "TEXTS "), sizes[0], '\n');
@@ -92,3 +92,5 @@ uint64_t plain_file(const uint8_t *file, size_t n, uint8_t *report, size_t k) {
     }
     return to - report;
 }
+
+uint64_t plain_file(const uint8_t *file, size_t n, uint8_t *report, size_t k) { return run_file(plain_by_kind, file, n, report, k); }

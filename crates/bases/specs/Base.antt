@@ -33,9 +33,13 @@ pub record Greatest (b c : ℕ) : Type 0 where
   pub held : Holds b c
   pub greatest : (d : ℕ) → Holds b d → d ≤ c
 
+-- characters have codes below this: a base is lent as two words
+abbrev pub codes : ℕ
+codes = 128
+
 -- the least and the greatest character, as numbers: by the zeros below the lowest set bit and above the highest
 unfoldable pub leastOf : ℕ → ℕ
-leastOf b = trailingZeros 128 b
+leastOf b = trailingZeros codes b
 
 unfoldable pub greatestOf : ℕ → ℕ
-greatestOf b = 127 - leadingZeros 128 b
+greatestOf b = codes - 1 - leadingZeros codes b

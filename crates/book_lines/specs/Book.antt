@@ -6,6 +6,7 @@ use Rattle.rules.specs.declared.Rule.{Rule}
 use Rattle.shapes.specs.All.{All}
 use Rattle.shapes.specs.Shape.{Block}
 use Rattle.numerals.specs.Digits.{digits, decimal}
+use Rattle.bases.specs.Base.{codes}
 
 -- A book: the block count of each text, the blocks of all texts, the rules.
 pub record Book : Type 0 where
@@ -55,12 +56,12 @@ unfoldable pub writing : Book → List ℕ
 unfolding linesOf joined
 writing b = joined (linesOf b)
 
--- Decimals are up to 65,535. A base has codes below 128 only.
+-- Decimals are up to 65,535. A base has only characters that there are.
 abbrev pub Small : ℕ → Type 0
 Small n = n ≤ 65535
 
 pub record RightBlock (b : Block) : Type 0 where
-  pub base : b .base < 2 ^ 128
+  pub base : b .base < 2 ^ codes
   pub lower : Small (b .lower)
   pub upper : Small (b .upper)
 

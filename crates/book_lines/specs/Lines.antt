@@ -7,7 +7,8 @@ use Rattle.rules.specs.Rule.{ruleOf}
 use Rattle.numerals.specs.declared.Number.{Number}
 use Rattle.numerals.specs.declared.Number.the-variants.{Is as is, Not as none}
 use Rattle.shapes.specs.All.{All}
-use Rattle.shapes.specs.Lent.{meant}
+use Rattle.shapes.specs.Shape.{Block}
+use Rattle.shapes.specs.Lent.{blockOf}
 use Rattle.book_lines.specs.declared.Found.{Found}
 use Rattle.book_lines.specs.declared.Found.the-variants.{At, Nothing}
 use Rattle.book_lines.specs.declared.Two.{Two}
@@ -16,6 +17,7 @@ use Rattle.book_lines.specs.declared.Triple.{Triple}
 use Rattle.book_lines.specs.declared.Triple.the-variants.{Is as triple, Not as no-triple}
 use Rattle.book_lines.specs.declared.BlockLine.{BlockLine}
 use Rattle.book_lines.specs.declared.BlockLine.the-variants.{Is as block, Not as no-block}
+use Rattle.book_lines.specs.declared.Words.{Words}
 use Rattle.book_lines.specs.Book.{Small, RightBlock, RightRule, twoNumbers, blockLine, ruleLine, headLine}
 
 -- no byte of t is b
@@ -51,6 +53,10 @@ abbrev pub TripleRead : List ℕ → Triple → Type 0
 TripleRead t (triple k a b) = Says RightRule ruleLine t (ruleOf k a b)
 TripleRead t no-triple = SaysNone RightRule ruleLine t
 
+-- the block of a line's numbers
+abbrev pub blockIn : Words → Block
+blockIn w = blockOf (w .low) (w .high) (w .lower) (w .upper)
+
 abbrev pub BlockRead : List ℕ → BlockLine → Type 0
-BlockRead t (block w) = Says RightBlock blockLine t (meant w)
+BlockRead t (block w) = Says RightBlock blockLine t (blockIn w)
 BlockRead t no-block = SaysNone RightBlock blockLine t

@@ -1,6 +1,5 @@
 // A book file, read line by line.
 use numerals::Number;
-use shapes::Words;
 ghost use mathlib.Core.Path.{_≡_};
 ghost use Prim.Native.Nat.{_≤_};
 ghost use Rattle.bases.specs.Tells.{Tells};
@@ -22,6 +21,14 @@ pub enum Two {
 pub enum Triple {
     Is(u64, u64, u64),
     Not,
+}
+
+// The numbers of a block's line: the base's two words, lower and upper.
+pub struct Words {
+    pub low: u64,
+    pub high: u64,
+    pub lower: u64,
+    pub upper: u64,
 }
 
 pub enum BlockLine {

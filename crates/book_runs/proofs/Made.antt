@@ -1,17 +1,15 @@
 -- The runner's steps forward, as its code takes them: each keeps what it has made, and the ends give the outcome. Assumes nothing.
 use mathlib.Core.Path.{_≡_, sym, ap, _∙_, subst}
 use mathlib.Core.Bool.{Bool, true, false}
-use mathlib.Core.List.{List, _++_}
+use mathlib.Core.List.{List}
 use Prim.Native.Nat.{ℕ, zero, suc, _+_, _*_, _≤_, _<_}
 use native.Mathlib.Nat.{mul-le-mul-left, mul-suc, zero-add, add-zero}
 use native.Mathlib.Numerals.{add-one}
 use native.Mathlib.Omega.{arith}
-use lib.ListN.{length, drop, replicate, length-replicate}
-use lib.Seq.{drop-at}
+use lib.ListN.{length}
 use Rattle.shapes.specs.All.{All}
 use Rattle.shapes.specs.Shape.{Block, Sound, Small}
 use Rattle.hulls.specs.Hull.{None, Hull, Outcome, none, shapes}
-use Rattle.pairs.specs.Narrow.{cleared}
 use Rattle.book_runs.specs.Room.{roomOf}
 use Rattle.book_runs.specs.Walk.{Walk}
 use Rattle.book_runs.specs.Walk.Walk.{stops, keeps, changes, round, rests}
@@ -73,9 +71,3 @@ made-count {n} {Z} d h f g s =
     let room = room-bound s in
     let r : n * roomOf Z ≤ n * 96768 = mul-le-mul-left n (omega arith) in
     omega arith
-
--- a work buffer that is cleared stays as it is when it is cleared again
-pub cleared-stays : (n : ℕ) (u v w : List ℕ) → v ≡ cleared n u → w ≡ cleared n v → w ≡ v
-unfolding cleared
-cleared-stays n u v w p q =
-    q ∙ ap (λ (l : List ℕ). replicate n 0 ++ l) (ap (drop n) p ∙ drop-at (replicate n 0) (drop n u) n (length-replicate n 0)) ∙ sym p

@@ -2,8 +2,6 @@
 use answers::Checked;
 use answers::Ran;
 use book_steps::Applied;
-ghost use lib.ListN.{length};
-ghost use Rattle.pairs.specs.Narrow.{Cleared};
 ghost use Rattle.book_steps.specs.Step.{Running};
 ghost use Rattle.book_runs.specs.Walk.{RunPromise};
 ghost use Rattle.book_runs.specs.Runner.{EndedSays};
@@ -15,13 +13,11 @@ pub enum Ended {
 }
 
 // The rounds, from the entered numbers.
-fn run_rounds(counts: &[u64], numbers: &mut [u64], rules: &[u64], work: &mut [u8]) -> Ended
-    requires { ⌜ Running (now counts) (now numbers) (now rules) (length (now work)) ⌝ }
+fn run_rounds(counts: &[u64], numbers: &mut [u64], rules: &[u64]) -> Ended
+    requires { ⌜ Running (now counts) (now numbers) (now rules) ⌝ }
     ensures { λ r. ⌜ EndedSays (now (counts .entry)) (now (rules .entry)) (now (numbers .entry)) (now (numbers .exit)) r ⌝ }
-    ensures { λ _. ⌜ Cleared (now (work .entry)) (now (work .exit)) ⌝ }
 {
     let n = rules.len() / rules::SIZE; // the rules of a round
-    equals::clear(work);
     let mut k = 0;
     let mut changed = false;
     let mut made = 0;
@@ -33,7 +29,7 @@ fn run_rounds(counts: &[u64], numbers: &mut [u64], rules: &[u64], work: &mut [u8
             k = 0;
             changed = false;
         } else {
-            match book_steps::apply_rule(counts, numbers, rules, k, work) {
+            match book_steps::apply_rule(counts, numbers, rules, k) {
                 Applied::None => return Ended::None(made + 1),
                 Applied::Same => {
                     k += 1;
@@ -56,10 +52,11 @@ pub fn run_book(counts: &[u64], blocks: &mut [u64], rules: &[u64], work: &mut [u
     match books::check_book(counts, blocks, rules, work.len()) {
         Checked::Refused(r) => Ran::Refused(r),
         Checked::Sound => {
+            pairs::clear(work);
             let n = blocks.len();
             let mut numbers = [0u64; 1024];
             laying::lay(&mut numbers, 0, blocks);
-            match run_rounds(counts, &mut numbers[..n], rules, work) {
+            match run_rounds(counts, &mut numbers[..n], rules) {
                 Ended::None(m) => Ran::None(m),
                 Ended::Stable(m) => {
                     laying::lay(blocks, 0, &numbers[..n]);

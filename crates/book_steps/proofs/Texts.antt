@@ -40,7 +40,7 @@ module _ {counts : List ℕ} {k : ℕ} {p : Place} (e : PlaceOf counts k p) wher
   compared x xs {r} t = subst₂ (λ (y z : List ℕ). Tells r (y ≡ z)) (at-is xs) (taken-is x) t
 
 -- what narrowing answers of the numbers at two places
-pub answer-is : {R : List ℕ → List ℕ → Type 0} {counts : List ℕ} (xs : List ℕ) {a b : ℕ} {p q : Place} {w ox oy w′ ox′ oy′ : List ℕ} {r : Bool} → PlaceOf counts a p → PlaceOf counts b q
-    → NarrowAnswer R (at xs p) (at xs q) w ox oy w′ ox′ oy′ r → NarrowAnswer R (numbersIn counts xs a) (numbersIn counts xs b) w ox oy w′ ox′ oy′ r
-answer-is {R} {counts} xs {w = w} {ox = ox} {oy = oy} {w′ = w′} {ox′ = ox′} {oy′ = oy′} {r = r} e f n =
-    subst₂ (λ (x y : List ℕ). NarrowAnswer R x y w ox oy w′ ox′ oy′ r) (at-is e xs) (at-is f xs) n
+pub answer-is : {R : List ℕ → List ℕ → Type 0} {counts : List ℕ} (xs : List ℕ) {a b : ℕ} {p q : Place} {ox oy ox′ oy′ : List ℕ} {r : Bool} → PlaceOf counts a p → PlaceOf counts b q
+    → NarrowAnswer R (at xs p) (at xs q) ox oy ox′ oy′ r → NarrowAnswer R (numbersIn counts xs a) (numbersIn counts xs b) ox oy ox′ oy′ r
+answer-is {R} {counts} xs {ox = ox} {oy = oy} {ox′ = ox′} {oy′ = oy′} {r = r} e f n =
+    subst₂ (λ (x y : List ℕ). NarrowAnswer R x y ox oy ox′ oy′ r) (at-is e xs) (at-is f xs) n

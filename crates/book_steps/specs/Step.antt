@@ -10,22 +10,26 @@ use Rattle.hulls.specs.Hull.{None, Hull}
 use Rattle.books.specs.Counts.{sumOf, RightCount}
 use Rattle.books.specs.Rules.{ruleOf}
 use Rattle.books.specs.Refused.{SoundTexts, RightRules}
+use Rattle.shapes.specs.Shape.{blockSize}
 use Rattle.book_steps.specs.declared.Applied.{Applied}
 use Rattle.book_steps.specs.declared.Applied.the-variants.{None as no-choice, Same, Changed}
 
 -- Numbers so far: a sound shape for each text.
 pub record Standing (counts xs : List ℕ) : Type 0 where
-  pub size : length xs ≡ sumOf counts * 4
+  pub size : length xs ≡ sumOf counts * blockSize
   pub texts : SoundTexts counts (shapeOf xs)
 
--- An accepted book with the numbers so far.
-pub record Running (counts xs rules : List ℕ) (work : ℕ) : Type 0 where
+-- At most eight texts, each of a right number of blocks.
+pub record Texts (counts xs : List ℕ) : Type 0 where
   pub each : All RightCount counts
-  pub few-texts : length counts ≤ 8
+  pub few : length counts ≤ 8
+  pub standing : Standing counts xs
+
+-- An accepted book with the numbers so far.
+pub record Running (counts xs rules : List ℕ) : Type 0 where
+  pub texts : Texts counts xs
   pub few-rules : ruleCount rules ≤ 16
   pub right : RightRules counts rules
-  pub standing : Standing counts xs
-  pub room : 63001 ≤ work
 
 -- One application of rule j: the numbers before and after it.
 abbrev pub AppliedSays : List ℕ → List ℕ → ℕ → List ℕ → List ℕ → Applied → Type 0

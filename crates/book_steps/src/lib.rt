@@ -6,13 +6,14 @@ ghost use lib.ListN.{length, take};
 ghost use Rattle.bases.specs.Tells.{Tells};
 ghost use Rattle.rules.specs.Rule.{ruleCount};
 ghost use Rattle.texts.specs.Kind.{relationOf};
-ghost use Rattle.pairs.specs.Narrow.{NarrowAnswer, Cleared};
+ghost use Rattle.pairs.specs.Narrow.{NarrowAnswer};
 ghost use Rattle.laying.specs.Laid.{replaced};
 ghost use Rattle.shapes.specs.All.{All};
 ghost use Rattle.books.specs.Counts.{sumOf, RightCount, countOf, firstOf};
 ghost use Rattle.books.specs.Code.{numbersIn};
 ghost use Rattle.books.specs.Rules.{Names, RightRule};
-ghost use Rattle.book_steps.specs.Step.{Running, AppliedSays};
+ghost use Rattle.shapes.specs.Shape.{blockSize};
+ghost use Rattle.book_steps.specs.Step.{Texts, Running, AppliedSays};
 
 // What one application of a rule does to the numbers so far.
 pub enum Applied {
@@ -21,23 +22,20 @@ pub enum Applied {
     Changed,
 }
 
-// Narrows the two texts of a rule, into the first numbers of x and y. (The rules are for the caller's proof.)
+// Narrows the two texts of a rule, into the first numbers of x and y.
 fn narrow_rule(
     counts: &[u64],
     numbers: &[u64],
-    rules: &[u64],
     rule: Rule,
-    work: &mut [u8],
     x: &mut [u64],
     y: &mut [u64],
 ) -> bool
-    requires { ⌜ Running (now counts) (now numbers) (now rules) (length (now work)) ⌝ }
+    requires { ⌜ Texts (now counts) (now numbers) ⌝ }
     requires { ⌜ RightRule (now counts) rule ⌝ }
     requires { ⌜ 128 ≤ length (now x) ⌝ }
     requires { ⌜ 128 ≤ length (now y) ⌝ }
     ensures { λ r. ⌜ NarrowAnswer (relationOf (rule .kind)) (numbersIn (now (counts .entry)) (now (numbers .entry)) (rule .a))
-        (numbersIn (now (counts .entry)) (now (numbers .entry)) (rule .b)) (now (work .entry)) (now (x .entry)) (now (y .entry))
-        (now (work .exit)) (now (x .exit)) (now (y .exit)) r ⌝ }
+        (numbersIn (now (counts .entry)) (now (numbers .entry)) (rule .b)) (now (x .entry)) (now (y .entry)) (now (x .exit)) (now (y .exit)) r ⌝ }
 {
     let place_a = books::place_of(counts, rule.a as usize);
     let place_b = books::place_of(counts, rule.b as usize);
@@ -49,7 +47,6 @@ fn narrow_rule(
         rule.kind,
         &numbers[from_a..to_a],
         &numbers[from_b..to_b],
-        work,
         x,
         y,
     )
@@ -59,11 +56,11 @@ fn narrow_rule(
 fn lay_text(counts: &[u64], numbers: &mut [u64], k: u64, x: &[u64]) -> bool
     requires { ⌜ All RightCount (now counts) ⌝ }
     requires { ⌜ length (now counts) ≤ 8 ⌝ }
-    requires { ⌜ length (now numbers) ≡ sumOf (now counts) * 4 ⌝ }
+    requires { ⌜ length (now numbers) ≡ sumOf (now counts) * blockSize ⌝ }
     requires { ⌜ Names (now counts) k ⌝ }
     requires { ⌜ 128 ≤ length (now x) ⌝ }
-    ensures { λ r. ⌜ Tells r (numbersIn (now (counts .entry)) (now (numbers .entry)) k ≡ take (countOf (now (counts .entry)) k * 4) (now (x .entry))) ⌝ }
-    ensures { λ _. ⌜ now (numbers .exit) ≡ replaced (firstOf (now (counts .entry)) k * 4) (take (countOf (now (counts .entry)) k * 4) (now (x .entry))) (now (numbers .entry)) ⌝ }
+    ensures { λ r. ⌜ Tells r (numbersIn (now (counts .entry)) (now (numbers .entry)) k ≡ take (countOf (now (counts .entry)) k * blockSize) (now (x .entry))) ⌝ }
+    ensures { λ _. ⌜ now (numbers .exit) ≡ replaced (firstOf (now (counts .entry)) k * blockSize) (take (countOf (now (counts .entry)) k * blockSize) (now (x .entry))) (now (numbers .entry)) ⌝ }
 {
     let place = books::place_of(counts, k as usize);
     let from = place.from;
@@ -77,22 +74,15 @@ fn lay_text(counts: &[u64], numbers: &mut [u64], k: u64, x: &[u64]) -> bool
 }
 
 // Applies rule j to the numbers so far.
-pub fn apply_rule(
-    counts: &[u64],
-    numbers: &mut [u64],
-    rules: &[u64],
-    j: usize,
-    work: &mut [u8],
-) -> Applied
-    requires { ⌜ Running (now counts) (now numbers) (now rules) (length (now work)) ⌝ }
+pub fn apply_rule(counts: &[u64], numbers: &mut [u64], rules: &[u64], j: usize) -> Applied
+    requires { ⌜ Running (now counts) (now numbers) (now rules) ⌝ }
     requires { ⌜ j < ruleCount (now rules) ⌝ }
     ensures { λ r. ⌜ AppliedSays (now (counts .entry)) (now (rules .entry)) j (now (numbers .entry)) (now (numbers .exit)) r ⌝ }
-    ensures { λ _. ⌜ Cleared (now (work .entry)) (now (work .exit)) ⌝ }
 {
     let rule = rules::rule_at(rules, j);
     let mut x = [0u64; 128];
     let mut y = [0u64; 128];
-    if !narrow_rule(counts, numbers, rules, rule, work, &mut x, &mut y) {
+    if !narrow_rule(counts, numbers, rule, &mut x, &mut y) {
         return Applied::None;
     }
     let same_a = lay_text(counts, numbers, rule.a, &x);

@@ -5,7 +5,7 @@ use Prim.Native.Nat.{ℕ, _+_, _-_, _*_, _%_, _≤_}
 use lib.ListN.{length, getD, take, drop}
 use Rattle.rules.specs.Rule.{ruleSize, ruleCount}
 use Rattle.shapes.specs.All.{All}
-use Rattle.shapes.specs.Shape.{Block, Sound, total}
+use Rattle.shapes.specs.Shape.{Block, Sound, total, blockSize}
 
 -- The block counts, added.
 unfoldable pub sumOf : List ℕ → ℕ
@@ -23,7 +23,7 @@ pub record RightCounts (counts blocks rules : List ℕ) : Type 0 where
   pub some-texts : 1 ≤ length counts
   pub few-texts : length counts ≤ 8
   pub each : All RightCount counts
-  pub whole-blocks : length blocks ≡ sumOf counts * 4
+  pub whole-blocks : length blocks ≡ sumOf counts * blockSize
   pub whole-rules : length rules % ruleSize ≡ 0
   pub few-rules : ruleCount rules ≤ 16
 

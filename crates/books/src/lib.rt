@@ -11,6 +11,7 @@ ghost use Rattle.shapes.specs.Lent.{shapeOf, BlocksChecked};
 ghost use Rattle.books.specs.Counts.{sumOf, RightCount, RightCounts, shapeIn};
 ghost use Rattle.rules.specs.Rule.{ruleAt, ruleCount};
 ghost use Rattle.shapes.specs.FirstBad.{UpTo};
+ghost use Rattle.shapes.specs.Shape.{blockSize};
 ghost use Rattle.books.specs.Rules.{Names, RightRule};
 ghost use Rattle.books.specs.Refused.{BookChecked};
 ghost use Rattle.books.specs.Code.{PlaceOf, TextsChecked};
@@ -78,7 +79,7 @@ fn right_counts(counts: &[u64], blocks: &[u64], rules: &[u64]) -> bool
         return false;
     }
     let sum = blocks_before(counts, n);
-    if blocks.len() != sum * 4 {
+    if blocks.len() != sum * shapes::SIZE {
         return false;
     }
     true
@@ -91,8 +92,8 @@ pub fn place_of(counts: &[u64], k: usize) -> Place
     requires { ⌜ Names (now counts) k ⌝ }
     ensures { λ r. ⌜ PlaceOf (now (counts .entry)) k r ⌝ }
 {
-    let from = blocks_before(counts, k - 1) * 4;
-    let to = blocks_before(counts, k) * 4;
+    let from = blocks_before(counts, k - 1) * shapes::SIZE;
+    let to = blocks_before(counts, k) * shapes::SIZE;
     Place { from, to }
 }
 
@@ -100,7 +101,7 @@ pub fn place_of(counts: &[u64], k: usize) -> Place
 fn check_text(counts: &[u64], blocks: &[u64], k: usize) -> Checked
     requires { ⌜ All RightCount (now counts) ⌝ }
     requires { ⌜ length (now counts) ≤ 8 ⌝ }
-    requires { ⌜ length (now blocks) ≡ sumOf (now counts) * 4 ⌝ }
+    requires { ⌜ length (now blocks) ≡ sumOf (now counts) * blockSize ⌝ }
     requires { ⌜ Names (now counts) k ⌝ }
     ensures { λ r. ⌜ BlocksChecked k (shapeIn (now (counts .entry)) (shapeOf (now (blocks .entry))) k) r ⌝ }
 {
@@ -114,7 +115,7 @@ fn check_text(counts: &[u64], blocks: &[u64], k: usize) -> Checked
 fn check_texts(counts: &[u64], blocks: &[u64]) -> Checked
     requires { ⌜ All RightCount (now counts) ⌝ }
     requires { ⌜ length (now counts) ≤ 8 ⌝ }
-    requires { ⌜ length (now blocks) ≡ sumOf (now counts) * 4 ⌝ }
+    requires { ⌜ length (now blocks) ≡ sumOf (now counts) * blockSize ⌝ }
     ensures { λ r. ⌜ TextsChecked (now (counts .entry)) (shapeOf (now (blocks .entry))) r ⌝ }
 {
     let n = counts.len();

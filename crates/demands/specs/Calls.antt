@@ -7,7 +7,7 @@ use lib.ListN.{take}
 use Rattle.answers.specs.declared.Narrowed.{Narrowed}
 use Rattle.answers.specs.declared.Narrowed.the-variants.{Narrow, None}
 use Rattle.shapes.specs.Lent.{shapeOf}
-use Rattle.shapes.specs.Shape.{Fits}
+use Rattle.shapes.specs.Shape.{Fits, blockSize}
 use Rattle.hulls.specs.Book.{Within}
 use Rattle.texts.specs.Kind.{relationOf}
 use Rattle.rules.specs.declared.Rule.{Rule}
@@ -38,14 +38,14 @@ pub record Call (counts : List ℕ) (t : Rule) (xs : List ℕ) (answer : Narrowe
 
 -- The two new shapes stand at the start of the outputs.
 abbrev pub newA : (counts : List ℕ) (t : Rule) (xs : List ℕ) → Call counts t xs Narrow → List ℕ
-newA counts t xs c = take (countOf counts (t .a) * 4) (c .out-a′)
+newA counts t xs c = take (countOf counts (t .a) * blockSize) (c .out-a′)
 
 abbrev pub newB : (counts : List ℕ) (t : Rule) (xs : List ℕ) → Call counts t xs Narrow → List ℕ
-newB counts t xs c = take (countOf counts (t .b) * 4) (c .out-b′)
+newB counts t xs c = take (countOf counts (t .b) * blockSize) (c .out-b′)
 
 -- They are laid back over the old ones.
 abbrev pub after : (counts : List ℕ) (t : Rule) (xs : List ℕ) → Call counts t xs Narrow → List ℕ
-after counts t xs c = replaced (firstOf counts (t .b) * 4) (newB counts t xs c) (replaced (firstOf counts (t .a) * 4) (newA counts t xs c) xs)
+after counts t xs c = replaced (firstOf counts (t .b) * blockSize) (newB counts t xs c) (replaced (firstOf counts (t .a) * blockSize) (newA counts t xs c) xs)
 
 -- The call for the rule t answers with both shapes as they are.
 pub record Leaves (counts : List ℕ) (t : Rule) (xs : List ℕ) : Type 0 where

@@ -1,4 +1,2 @@
 -- The laws of narrowing under equality.
-pub mod Table
-pub mod Sides
 pub mod Equal

@@ -1,112 +1,107 @@
 // Exact narrowing of two shapes under equality of their texts.
+use sets::Set;
 ghost use mathlib.Core.Path.{_≡_};
-ghost use Prim.Native.Nat.{_/_, _≤_, _<_};
-ghost use lib.ListN.{length};
-ghost use Rattle.shapes.specs.Lent.{blockAt};
-ghost use Rattle.rests.specs.Walk.{Path, Same};
-ghost use Rattle.tables.specs.Table.{FinishFrom, Same-rest};
-ghost use Rattle.gathering.specs.Side.{Side, lookAt};
-ghost use Rattle.pairs.specs.Narrow.{Narrows, NarrowAnswer, cleared};
-ghost use Rattle.pairs.specs.Pair.{Room};
-ghost use Rattle.equals.specs.Inner.{Whole, Laid, SideTo};
+ghost use Prim.Native.Nat.{_≤_};
+ghost use lib.ListN.{length, replicate};
+ghost use Rattle.sets.specs.Set.{setOf};
+ghost use Rattle.shapes.specs.Lent.{Whole, shapeOf};
+ghost use Rattle.shapes.specs.Shape.{total};
+ghost use Rattle.rests.specs.Walk.{Path, Same, slotAt};
+ghost use Rattle.row_lay.specs.Lay.{Lay};
+ghost use Rattle.equal_forth.specs.Forth.{Pass};
+ghost use Rattle.pairs.specs.Narrow.{Narrows, NarrowAnswer};
+ghost use Rattle.rows.specs.Row.{tableSize};
 
-// Writes each block of one side as the table tells of it.
-fn narrow_side(x: &[u64], other: &[u64], m: usize, work: &[u8], turned: bool, out: &mut [u64])
-    requires { ⌜ Whole (now x) ⌝ }
-    requires { ⌜ Side (now other) m (now work) ⌝ }
-    requires { ⌜ length (now x) ≤ length (now out) ⌝ }
-    ensures { λ _. ⌜ SideTo (lookAt turned (now (work .entry))) (blockAt (now (other .entry))) m (now (x .entry)) (length (now (x .entry)) / 4) (now (out .entry)) (now (out .exit)) ⌝ }
+// No rows yet: room for those of 64 blocks.
+fn blank() -> [u64; 256]
+    ensures { λ r. ⌜ r ≡ replicate 256 0 ⌝ }
 {
-    let n = x.len() / 4;
-    let mut p = 0;
-    let mut i = 0;
-    while i < n {
-        let b = shapes::block_at(x, i);
-        let h = lengths::narrow_block(b, other, m, work, turned, p);
-        layouts::put_block(out, i, h);
-        p += b.upper as usize;
-        i += 1;
-    }
+    [0u64; 256]
 }
 
-// Sets the table to 0.
-pub fn clear(work: &mut [u8])
-    requires { ⌜ 63001 ≤ length (now work) ⌝ }
-    ensures { λ _. ⌜ now (work .exit) ≡ cleared 63001 (now (work .entry)) ⌝ }
+// No rows yet: room for those of 251 positions.
+fn blank_rows() -> [u64; 1004]
+    ensures { λ r. ⌜ r ≡ replicate 1004 0 ⌝ }
 {
-    let mut k = 0;
-    while k < 63001 {
-        work[k] = 0;
-        k += 1;
-    }
+    [0u64; 1004]
 }
 
-// Marks the table and writes both sides, where there is a pair of fillings with one text.
+// The second pass and both outputs, where there is a pair of fillings with one text.
 fn narrow_live(
     x: &[u64],
     y: &[u64],
-    xs: &[u64],
-    ys: &[u64],
-    n: usize,
-    m: usize,
-    work: &mut [u8],
+    zones: &[u64],
+    ends: &[u64],
+    slots: &[u64],
+    mines: &[u64],
+    rows: &[u64],
+    last: Set,
     out_x: &mut [u64],
     out_y: &mut [u64],
 )
-    requires { ⌜ Laid (now x) (now y) (now xs) (now ys) n m ⌝ }
-    requires { ⌜ Room (now x) (now y) (length (now work)) (length (now «out_x»)) (length (now «out_y»)) ⌝ }
-    requires { ⌜ FinishFrom (blockAt (now xs)) (blockAt (now ys)) n m 0 (now work) ⌝ }
-    requires { ⌜ Path (blockAt (now xs)) (blockAt (now ys)) n m 0 0 ⌝ }
+    requires { ⌜ Whole (now x) × Whole (now y) ⌝ }
+    requires { ⌜ (length (now x) ≤ 256) × (length (now y) ≤ 256) ⌝ }
+    requires { ⌜ (length (now x) ≤ length (now «out_x»)) × (length (now y) ≤ length (now «out_y»)) ⌝ }
+    requires { ⌜ (length (now zones) ≡ 256) × (length (now ends) ≡ 256) × (length (now slots) ≡ 256) × (length (now mines) ≡ 256) × (length (now rows) ≡ tableSize) ⌝ }
+    requires { ⌜ Lay (shapeOf (now y)) (now zones) (now ends) (now slots) ⌝ }
+    requires { ⌜ Pass (now x) (now y) (now mines) (now rows) (setOf last) ⌝ }
+    requires { ⌜ Path (slotAt (shapeOf (now x))) (slotAt (shapeOf (now y))) (total (shapeOf (now x))) (total (shapeOf (now y))) 0 0 ⌝ }
     ensures { λ _. ⌜ Narrows Same (now (x .entry)) (now (y .entry)) (now («out_x» .entry)) (now («out_y» .entry)) (now («out_x» .exit)) (now («out_y» .exit)) ⌝ }
-    ensures { λ _. ⌜ Same-rest (now (work .entry)) (now (work .exit)) ⌝ }
 {
-    marks::mark_table(xs, ys, n, m, work);
-    narrow_side(x, ys, m, work, false, out_x);
-    narrow_side(y, xs, n, work, true, out_y);
+    let mut own = blank();
+    let mut others = blank();
+    let told = equal_back::back(
+        x,
+        y,
+        zones,
+        ends,
+        slots,
+        mines,
+        rows,
+        last,
+        &mut own,
+        &mut others,
+    );
+    row_blocks::narrow_blocks(x, &own, told.stops, told.takes, out_x);
+    row_blocks::narrow_blocks(y, &others, told.quit, told.moved, out_y);
 }
 
-// Narrows two shapes that are laid out.
-fn narrow_laid(
-    x: &[u64],
-    y: &[u64],
-    xs: &[u64],
-    ys: &[u64],
-    n: usize,
-    m: usize,
-    work: &mut [u8],
-    out_x: &mut [u64],
-    out_y: &mut [u64],
-) -> bool
-    requires { ⌜ Laid (now x) (now y) (now xs) (now ys) n m ⌝ }
-    requires { ⌜ Room (now x) (now y) (length (now work)) (length (now «out_x»)) (length (now «out_y»)) ⌝ }
-    ensures { λ r. ⌜ NarrowAnswer Same (now (x .entry)) (now (y .entry)) (now (work .entry)) (now («out_x» .entry)) (now («out_y» .entry)) (now (work .exit)) (now («out_x» .exit)) (now («out_y» .exit)) r ⌝ }
+// Narrows two shapes of at most 64 blocks under equality.
+pub fn narrow_equal(x: &[u64], y: &[u64], out_x: &mut [u64], out_y: &mut [u64]) -> bool
+    requires { ⌜ Whole (now x) × Whole (now y) ⌝ }
+    requires { ⌜ (length (now x) ≤ 256) × (length (now y) ≤ 256) ⌝ }
+    requires { ⌜ (length (now x) ≤ length (now «out_x»)) × (length (now y) ≤ length (now «out_y»)) ⌝ }
+    ensures { λ r. ⌜ NarrowAnswer Same (now (x .entry)) (now (y .entry)) (now («out_x» .entry)) (now («out_y» .entry)) (now («out_x» .exit)) (now («out_y» .exit)) r ⌝ }
 {
-    tables::finish_table(xs, ys, n, m, work);
-    if work[0] == 0 {
-        clear(work);
+    let mut zones = blank();
+    let mut ends = blank();
+    let mut slots = blank();
+    let m = row_lay::lay(y, &mut zones, &mut ends, &mut slots);
+    let mut mines = blank();
+    let mut rows = blank_rows();
+    let last = equal_forth::forth(
+        x,
+        y,
+        &zones,
+        &ends,
+        &slots,
+        &mut mines,
+        &mut rows,
+    );
+    if !sets::has(last, m) {
         return false;
     }
-    narrow_live(x, y, xs, ys, n, m, work, out_x, out_y);
-    clear(work);
+    narrow_live(
+        x,
+        y,
+        &zones,
+        &ends,
+        &slots,
+        &mines,
+        &rows,
+        last,
+        out_x,
+        out_y,
+    );
     true
-}
-
-// Narrows two shapes under equality. The blocks may be any number; the table needs room for 251 times 251 bytes.
-pub fn narrow_equal(
-    x: &[u64],
-    y: &[u64],
-    work: &mut [u8],
-    out_x: &mut [u64],
-    out_y: &mut [u64],
-) -> bool
-    requires { ⌜ Whole (now x) ⌝ }
-    requires { ⌜ Whole (now y) ⌝ }
-    requires { ⌜ Room (now x) (now y) (length (now work)) (length (now «out_x»)) (length (now «out_y»)) ⌝ }
-    ensures { λ r. ⌜ NarrowAnswer Same (now (x .entry)) (now (y .entry)) (now (work .entry)) (now («out_x» .entry)) (now («out_y» .entry)) (now (work .exit)) (now («out_x» .exit)) (now («out_y» .exit)) r ⌝ }
-{
-    let mut xs = layouts::blank_slots();
-    let mut ys = layouts::blank_slots();
-    let n = layouts::lay_out(x, &mut xs);
-    let m = layouts::lay_out(y, &mut ys);
-    narrow_laid(x, y, &xs, &ys, n, m, work, out_x, out_y)
 }

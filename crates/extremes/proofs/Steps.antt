@@ -1,47 +1,29 @@
 -- The steps of one block, as the code takes them. Assumes nothing.
-use mathlib.Core.Path.{_≡_, refl, sym, ap, _∙_, subst}
+use mathlib.Core.Path.{_≡_, refl, sym, ap, ap₂, _∙_}
 use mathlib.Core.Bool.{Bool, true, false}
-use mathlib.Core.List.{List}
-use mathlib.Core.Logic.{_⊎_, ⊎-elim}
+use mathlib.Core.List.{List, [], _∷_}
 use Prim.Native.Nat.{ℕ, zero, suc, _+_, _/_, _≤_, _<_}
 use native.Mathlib.Omega.{arith}
-use lib.ListN.{length, getD, drop, set, length-set}
-use lib.Seq.{getD-set-same, getD-set-other}
+use lib.ListN.{length, drop, replicate}
 use Rattle.bases.specs.Base.{Empty}
-use Rattle.bases.proofs.Plain.{eq-or-ne}
 use Rattle.shapes.specs.Shape.{Block, Sound}
 use Rattle.shapes.specs.Lent.{shapeOf, blockAt}
 use Rattle.shapes.proofs.Lent.{shape-from, none-left}
 use Rattle.extremes.specs.declared.Direction.{Direction}
+use Rattle.extremes.specs.declared.Direction.the-variants.{Least, Greatest}
 use Rattle.extremes.specs.declared.Successor.{Successor}
 use Rattle.extremes.specs.declared.Successor.the-variants.{End}
-use Rattle.extremes.specs.declared.Choice.{Choice}
-use Rattle.extremes.specs.Steps.{charOf, goesFirst, countOf, onwards, unless, taken, after, successor}
-use Rattle.extremes.specs.Code.{Chosen}
+use Rattle.extremes.specs.Code.{charIn}
+use Rattle.extremes.specs.Steps.{charOf, goesFirst, countOf, onwards, unless, taken, after, successor, runs}
 
 none-counted : (f : Bool) (b : Block) → Sound b → b .upper ≡ 0 → 0 ≡ countOf f b
 none-counted true b ok z = sym z
 none-counted false b ok z = let h = ok .ordered in omega arith
 
--- a block of upper 0 takes nothing
-pub taken-bare : (d : Direction) (b : Block) (s : Successor) → Sound b → b .upper ≡ 0 → 0 ≡ taken d b s
-taken-bare d b s ok z = none-counted (goesFirst d (charOf d (b .base)) s) b ok z
-
--- any other has a character
-pub has-character : (b : Block) → Sound b → (b .upper ≡ 0 → ⊥) → Empty (b .base) → ⊥
-has-character b ok n e = n (ok .filled e)
-
--- the count by the test
-pub taken-as : (d : Direction) (b : Block) (s : Successor) (c : ℕ) (f t : Bool) → c ≡ charOf d (b .base) → t ≡ goesFirst d c s → t ≡ f → countOf f b ≡ taken d b s
-taken-as d b s c f t e g h = ap (λ (x : Bool). countOf x b) (sym h ∙ g ∙ ap (λ (x : ℕ). goesFirst d x s) e)
-
-counted-none : (f : Bool) (b : Block) → (countOf f b ≡ 0 → ⊥) → Sound b → b .upper ≡ 0 → ⊥
-counted-none true b n ok z = n z
-counted-none false b n ok z = n (let h = ok .ordered in omega arith)
-
--- a block that takes something has a character
-pub takes-character : (d : Direction) (b : Block) (s : Successor) → Sound b → (taken d b s ≡ 0 → ⊥) → Empty (b .base) → ⊥
-takes-character d b s ok n e = counted-none (goesFirst d (charOf d (b .base)) s) b n ok (ok .filled e)
+-- no sound block takes more than 250
+pub counted-small : (f : Bool) (b : Block) → Sound b → countOf f b ≤ 250
+counted-small true b ok = ok .small
+counted-small false b ok = let h = ok .ordered in let g = ok .small in omega arith
 
 unless-zero : (k : ℕ) (s n : Successor) → k ≡ 0 → s ≡ unless k s n
 unless-zero zero s n e = refl
@@ -51,45 +33,75 @@ unless-some : (k : ℕ) (s n : Successor) → (k ≡ 0 → ⊥) → n ≡ unless
 unless-some zero s n e = absurd (e refl)
 unless-some (suc k) s n e = refl
 
--- the successor before a block that takes nothing, and before one that takes something
-pub after-none : (d : Direction) (b : Block) (s : Successor) → taken d b s ≡ 0 → s ≡ after d b s
-after-none d b s e = unless-zero (taken d b s) s _ e
+-- a block of some upper has a character
+pub has-character : (b : Block) → Sound b → (b .upper ≡ 0 → ⊥) → Empty (b .base) → ⊥
+has-character b ok n e = n (ok .filled e)
 
-pub after-some : (d : Direction) (b : Block) (s : Successor) (c : ℕ) (t : Bool) (r : Successor) → (taken d b s ≡ 0 → ⊥) → c ≡ charOf d (b .base) → t ≡ goesFirst d c s → r ≡ onwards d t c
-    → r ≡ after d b s
-after-some d b s c t r n e g h =
-    h ∙ ap (λ (x : Bool). onwards d x c) g ∙ ap (λ (x : ℕ). onwards d (goesFirst d x s) x) e ∙ unless-some (taken d b s) s _ n
+-- the successor tells the character that was taken
+char-onward : (d : Direction) (f : Bool) (c : ℕ) → charIn (onwards d f c) ≡ c
+char-onward Least true c = refl
+char-onward Least false c = refl
+char-onward Greatest true c = refl
+char-onward Greatest false c = refl
 
--- ---- the choices that a loop writes, from the last block to the first
+-- ---- what a block takes where s follows it, and the successor before it
+
+-- a block of upper 0 takes nothing
+module _ (d : Direction) (b : Block) (s : Successor) (ok : Sound b) (z : b .upper ≡ 0) where
+  bare : 0 ≡ taken d b s
+  bare = none-counted (goesFirst d (charOf d (b .base)) s) b ok z
+
+  pub bare-run : [] ≡ replicate (taken d b s) (charOf d (b .base))
+  bare-run = ap (λ (n : ℕ). replicate n (charOf d (b .base))) bare
+
+  pub bare-after : s ≡ after d b s
+  bare-after = unless-zero (taken d b s) s _ (sym bare)
+
+-- of any other, c is the character, f whether that goes first, and n the count
+pub record Chosen (d : Direction) (b : Block) (s : Successor) (c n : ℕ) (f : Bool) : Type 0 where
+  pub character : c ≡ charOf d (b .base)
+  pub first : f ≡ goesFirst d c s
+  pub counted : n ≡ countOf f b
+
+module _ {d : Direction} {b : Block} {s : Successor} {c n : ℕ} {f : Bool} (k : Chosen d b s c n f) where
+  goes : f ≡ goesFirst d (charOf d (b .base)) s
+  goes = k .first ∙ ap (λ (x : ℕ). goesFirst d x s) (k .character)
+
+  count : n ≡ taken d b s
+  count = k .counted ∙ ap (λ (x : Bool). countOf x b) goes
+
+  pub none-run : n ≡ 0 → [] ≡ replicate (taken d b s) (charOf d (b .base))
+  none-run z = ap (λ (x : ℕ). replicate x (charOf d (b .base))) (sym z ∙ count)
+
+  pub some-run : replicate n (charIn (onwards d f c)) ≡ replicate (taken d b s) (charOf d (b .base))
+  some-run = ap₂ (λ (x y : ℕ). replicate x y) count (char-onward d f c ∙ k .character)
+
+  pub none-after : n ≡ 0 → s ≡ after d b s
+  none-after z = unless-zero (taken d b s) s _ (sym count ∙ z)
+
+  pub some-after : (n ≡ 0 → ⊥) → onwards d f c ≡ after d b s
+  some-after m = ap₂ (λ (x : Bool) (y : ℕ). onwards d x y) goes (k .character) ∙ unless-some (taken d b s) s _ (λ z. m (count ∙ z))
+
+-- ---- the blocks of a lent shape, from the last to the first
 
 module _ (d : Direction) (xs : List ℕ) where
-  pub none-chosen : (i : ℕ) (all : List Choice) → length all ≡ 32 → length xs / 4 ≤ i → Chosen d xs i all
-  none-chosen i all long h = record { long = long; count = λ k z l u. absurd (omega arith) }
-
-  pub one-chosen : (i : ℕ) (all : List Choice) (k : Choice) → i < 32 → k .count ≡ taken d (blockAt xs i) (successor d (drop (i + 1) (shapeOf xs))) → Chosen d xs (i + 1) all
-      → Chosen d xs i (set all i k)
-  one-chosen i all k small e h =
-      record {
-        long = length-set all i k ∙ h .long;
-        count = λ j z l u. ⊎-elim
-            (λ q. subst (λ (x : ℕ). getD (set all i k) x z .count ≡ taken d (blockAt xs x) (successor d (drop (x + 1) (shapeOf xs)))) q
-            (ap (λ (x : Choice). x .count) (getD-set-same all i k z (let g = h .long in omega arith)) ∙ e))
-            (λ q. ap (λ (x : Choice). x .count) (getD-set-other all i j k z (λ p. q (sym p))) ∙ h .count j z (omega arith) u)
-            (eq-or-ne i j);
-      }
-
   pub successor-end : End ≡ successor d (drop (length xs / 4) (shapeOf xs))
   unfolding successor
   successor-end = sym (ap (successor d) (none-left xs))
 
-  pub successor-next : (i : ℕ) → i < length xs / 4 → after d (blockAt xs i) (successor d (drop (i + 1) (shapeOf xs))) ≡ successor d (drop i (shapeOf xs))
-  unfolding successor
-  successor-next i h = sym (ap (successor d) (shape-from xs i h))
+  pub runs-end : [] ≡ runs d (drop (length xs / 4) (shapeOf xs))
+  unfolding runs
+  runs-end = sym (ap (runs d) (none-left xs))
 
-  -- one turn of the loop
-  module _ (i : ℕ) (b : Block) (n : Successor) (at : b ≡ blockAt xs i) (ahead : n ≡ successor d (drop (i + 1) (shapeOf xs))) where
-    pub turn-count : (k : ℕ) → k ≡ taken d b n → k ≡ taken d (blockAt xs i) (successor d (drop (i + 1) (shapeOf xs)))
-    turn-count k e = e ∙ ap (λ (x : Block). taken d x n) at ∙ ap (taken d (blockAt xs i)) ahead
+  -- one turn of the loop: block i, from 0, is b, and n follows it
+  module _ (i : ℕ) (b : Block) (n : Successor) (here : i < length xs / 4) (at : b ≡ blockAt xs i) (behind : n ≡ successor d (drop (i + 1) (shapeOf xs))) where
+    pub turn-successor : (r : Successor) → r ≡ after d b n → r ≡ successor d (drop i (shapeOf xs))
+    unfolding successor
+    turn-successor r e = e ∙ ap₂ (λ (x : Block) (y : Successor). after d x y) at behind ∙ sym (ap (successor d) (shape-from xs i here))
 
-    pub turn-successor : i < length xs / 4 → (m r : Successor) → r ≡ after d b m → m ≡ n → r ≡ successor d (drop i (shapeOf xs))
-    turn-successor h m r e q = e ∙ ap (λ (x : Block). after d x m) at ∙ ap (after d (blockAt xs i)) (q ∙ ahead) ∙ successor-next i h
+    pub turn-runs : (r : List ℕ) (rs : List (List ℕ)) → r ≡ replicate (taken d b n) (charOf d (b .base)) → rs ≡ runs d (drop (i + 1) (shapeOf xs))
+        → r ∷ rs ≡ runs d (drop i (shapeOf xs))
+    unfolding runs
+    turn-runs r rs e h =
+        ap₂ (λ (x : List ℕ) (y : List (List ℕ)). x ∷ y) (e ∙ ap₂ (λ (x : Block) (y : Successor). replicate (taken d x y) (charOf d (x .base))) at behind) h
+        ∙ sym (ap (runs d) (shape-from xs i here))

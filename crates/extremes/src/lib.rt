@@ -2,18 +2,19 @@
 use answers::Checked;
 use answers::Refusal;
 use answers::Written;
-use shapes::Words;
+use sets::Set;
+use shapes::Block;
 ghost use mathlib.Core.Path.{_≡_};
-ghost use mathlib.Core.List.{[], _∷_, _++_};
-ghost use Prim.Native.Nat.{_+_, _≤_, _<_};
+ghost use mathlib.Core.List.{_++_};
+ghost use Prim.Native.Nat.{_+_, _^_, _≤_, _<_};
 ghost use lib.ListN.{length, take, drop, replicate};
-ghost use Rattle.bases.specs.Base.{baseOf, Empty};
-ghost use Rattle.shapes.specs.All.{All};
+ghost use Rattle.bases.specs.Base.{Empty, codes};
+ghost use Rattle.sets.specs.Set.{setOf};
 ghost use Rattle.shapes.specs.Shape.{Sound, Small};
-ghost use Rattle.shapes.specs.Lent.{meant, shapeOf, Accepted};
-ghost use Rattle.extremes.specs.Steps.{charOf, goesFirst, onwards, taken, after, extreme};
+ghost use Rattle.shapes.specs.Lent.{meant, Accepted};
+ghost use Rattle.extremes.specs.Steps.{charOf, goesFirst, countOf, onwards, taken, after};
 ghost use Rattle.extremes.specs.Extreme.{TextWritten, ExtremePromise};
-ghost use Rattle.extremes.specs.Code.{Chosen};
+ghost use Rattle.extremes.specs.Code.{charIn, runOf};
 
 // Which text is wanted.
 pub enum Direction {
@@ -28,10 +29,10 @@ pub enum Successor {
     Below(u8),
 }
 
-// What a block chooses: the count it takes, given what follows it.
+// What a block chooses: how often it takes its character, and the successor before it, which tells the character.
 pub struct Choice {
     pub successor: Successor,
-    pub count: u64,
+    pub count: u8,
 }
 
 fn goes_first(d: Direction, c: u8, s: Successor) -> bool
@@ -52,14 +53,25 @@ fn goes_first(d: Direction, c: u8, s: Successor) -> bool
 }
 
 // The character of a base that is not empty.
-fn char_of(d: Direction, low: u64, high: u64) -> u8
-    requires { ⌜ (Empty (baseOf (low ∷ (high ∷ []))) → ⊥) ⌝ }
-    ensures { λ r. ⌜ r ≡ charOf d (baseOf (low ∷ (high ∷ []))) ⌝ }
+fn char_of(d: Direction, base: Set) -> u8
+    requires { ⌜ (Empty (setOf base) → ⊥) ⌝ }
+    requires { ⌜ setOf base < 2 ^ codes ⌝ }
+    ensures { λ r. ⌜ r ≡ charOf d (setOf base) ⌝ }
 {
     match d {
-        Direction::Least => bases::least(low, high),
-        Direction::Greatest => bases::greatest(low, high),
+        Direction::Least => sets::first(base) as u8,
+        Direction::Greatest => sets::last(base) as u8,
     }
+}
+
+// The count that a block takes, by whether its character goes first.
+fn count_of(first: bool, b: Block) -> u64
+    ensures { λ r. ⌜ r ≡ countOf first (meant b) ⌝ }
+{
+    if first {
+        return b.upper;
+    }
+    b.lower
 }
 
 // The successor once c is taken.
@@ -83,10 +95,11 @@ fn onward(d: Direction, first: bool, c: u8) -> Successor
 }
 
 // What a sound block chooses where s follows it.
-fn choose(d: Direction, b: Words, s: Successor) -> Choice
+fn choose(d: Direction, b: Block, s: Successor) -> Choice
     requires { ⌜ Sound (meant b) ⌝ }
-    ensures { λ r. ⌜ r .count ≡ taken d (meant b) s ⌝ }
-    ensures { λ r. ⌜ r .successor ≡ s ⌝ }
+    requires { ⌜ Small (meant b) ⌝ }
+    ensures { λ r. ⌜ runOf r ≡ replicate (taken d (meant b) s) (charOf d (meant b .base)) ⌝ }
+    ensures { λ r. ⌜ r .successor ≡ after d (meant b) s ⌝ }
 {
     if b.upper == 0 {
         return Choice {
@@ -94,52 +107,28 @@ fn choose(d: Direction, b: Words, s: Successor) -> Choice
             count: 0,
         };
     }
-    let c = char_of(d, b.low, b.high);
-    if goes_first(d, c, s) {
+    let c = char_of(d, b.base);
+    let first = goes_first(d, c, s);
+    let count = count_of(first, b) as u8;
+    if count == 0 {
         return Choice {
             successor: s,
-            count: b.upper,
+            count: 0,
         };
     }
-    Choice {
-        successor: s,
-        count: b.lower,
-    }
+    let successor = onward(d, first, c);
+    Choice { successor, count }
 }
 
-// The successor before a block that has chosen.
-fn follow(d: Direction, b: Words, k: Choice) -> Successor
-    requires { ⌜ Sound (meant b) ⌝ }
-    requires { ⌜ k .count ≡ taken d (meant b) (k .successor) ⌝ }
-    ensures { λ r. ⌜ r ≡ after d (meant b) (k .successor) ⌝ }
+// The character that a successor is just above or just below.
+fn char_in(s: Successor) -> u8
+    ensures { λ r. ⌜ r ≡ charIn s ⌝ }
 {
-    let s = k.successor;
-    if k.count == 0 {
-        return s;
+    match s {
+        Successor::End => 0,
+        Successor::Above(c) => c,
+        Successor::Below(c) => c,
     }
-    let c = char_of(d, b.low, b.high);
-    onward(d, goes_first(d, c, s), c)
-}
-
-// The choices of all blocks, from the last to the first.
-fn choices(d: Direction, shape: &[u64]) -> [Choice; 32]
-    requires { ⌜ Accepted (now shape) ⌝ }
-    ensures { λ r. ⌜ Chosen d (now (shape .entry)) 0 r ⌝ }
-{
-    let mut all = [Choice {
-        successor: Successor::End,
-        count: 0,
-    }; 32];
-    let mut next = Successor::End;
-    let mut i = shape.len() / 4;
-    while 0 < i {
-        i -= 1;
-        let b = shapes::block_at(shape, i);
-        let k = choose(d, b, next);
-        all[i] = k;
-        next = follow(d, b, k);
-    }
-    all
 }
 
 // Writes v at every place of a part.
@@ -154,51 +143,45 @@ fn fill(part: &mut [u8], v: u8)
     }
 }
 
-// Writes a block's run at a place of the output, and answers the place past it.
-fn put_run(d: Direction, b: Words, count: usize, out: &mut [u8], at: usize) -> usize
-    requires { ⌜ at + count ≤ length (now out) ⌝ }
-    requires { ⌜ (0 < count → Empty (meant b .base) → ⊥) ⌝ }
-    ensures { λ r. ⌜ r ≡ at + count ⌝ }
-    ensures { λ _. ⌜ now (out .exit) ≡ take at (now (out .entry)) ++ (replicate count (charOf d (meant b .base)) ++ drop (at + count) (now (out .entry))) ⌝ }
+// Writes a choice's run at a place of the output, and answers the place past it.
+fn put_run(k: Choice, out: &mut [u8], at: usize) -> usize
+    requires { ⌜ at + k .count ≤ length (now out) ⌝ }
+    ensures { λ r. ⌜ r ≡ at + k .count ⌝ }
+    ensures { λ _. ⌜ now (out .exit) ≡ take at (now (out .entry)) ++ (runOf k ++ drop (at + k .count) (now (out .entry))) ⌝ }
 {
-    if count == 0 {
-        return at;
-    }
-    let c = char_of(d, b.low, b.high);
-    let end = at + count;
+    let s = k.successor;
+    let c = char_in(s);
+    let end = at + k.count as usize;
     fill(&mut out[at..end], c);
     end
 }
 
-// Writes the runs of the choices, from the first block to the last, and answers the text's length.
-fn write_runs(d: Direction, shape: &[u64], all: [Choice; 32], out: &mut [u8]) -> usize
-    requires { ⌜ Accepted (now shape) ⌝ }
-    requires { ⌜ 250 ≤ length (now out) ⌝ }
-    requires { ⌜ Chosen d (now shape) 0 all ⌝ }
-    requires { ⌜ All Small (shapeOf (now shape)) ⌝ }
-    ensures { λ r. ⌜ r ≡ length (extreme d (shapeOf (now (shape .entry)))) ⌝ }
-    ensures { λ r. ⌜ now (out .exit) ≡ extreme d (shapeOf (now (shape .entry))) ++ drop r (now (out .entry)) ⌝ }
-{
-    let n = shape.len() / 4;
-    let mut at = 0;
-    let mut i = 0;
-    while i < n {
-        let b = shapes::block_at(shape, i);
-        let k = all[i];
-        at = put_run(d, b, k.count as usize, out, at);
-        i += 1;
-    }
-    at
-}
-
-// The least or the greatest text of a shape that is accepted, at the start of the output, and its length.
+// The least or the greatest text of a shape that is accepted, at the start of the output, and its length: the blocks choose from the last to the first, then their runs are written from the first to the last.
 pub fn write_extreme(d: Direction, shape: &[u64], out: &mut [u8]) -> usize
     requires { ⌜ Accepted (now shape) ⌝ }
     requires { ⌜ 250 ≤ length (now out) ⌝ }
     ensures { λ r. ⌜ TextWritten d (now (shape .entry)) (now (out .entry)) (now (out .exit)) r ⌝ }
 {
-    let all = choices(d, shape);
-    write_runs(d, shape, all, out)
+    let mut all = [Choice {
+        successor: Successor::End,
+        count: 0,
+    }; 32];
+    let mut next = Successor::End;
+    let n = shape.len() / shapes::SIZE;
+    let mut i = n;
+    while 0 < i {
+        i -= 1;
+        let k = choose(d, shapes::block_at(shape, i), next);
+        all[i] = k;
+        next = k.successor;
+    }
+    let mut at = 0;
+    let mut j = 0;
+    while j < n {
+        at = put_run(all[j], out, at);
+        j += 1;
+    }
+    at
 }
 
 // The least or the greatest text of a shape.

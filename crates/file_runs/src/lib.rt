@@ -54,7 +54,7 @@ pub fn run_file(file: &[u8], report: &mut [u8]) -> Written
         Read::Refused(r) => Written::Refused(r),
         Read::Book(sizes) => {
             let texts = sizes.texts;
-            let numbers = sizes.blocks * 4;
+            let numbers = sizes.blocks * shapes::SIZE;
             let rule_numbers = sizes.rules * rules::SIZE;
             report_book(
                 &counts[..texts],

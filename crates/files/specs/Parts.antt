@@ -12,6 +12,7 @@ use Rattle.rules.specs.Rule.{rulesOf}
 use Rattle.sections.specs.declared.Section.{Section}
 use Rattle.sections.specs.declared.Section.the-variants.{Read as section-read, Departs as section-departs}
 use Rattle.sections.specs.Parts.{Items, SectionIs}
+use Rattle.shapes.specs.Shape.{blockSize}
 use Rattle.files.specs.declared.Last.{Last}
 use Rattle.files.specs.declared.Last.the-variants.{Read as last-read, Departs as last-departs}
 use Rattle.files.specs.declared.Tail.{Tail}
@@ -27,7 +28,7 @@ abbrev pub TextsSeen : List ℕ → List ℕ → List ℕ → Section → Type 0
 TextsSeen bytes out out′ r = SectionSeen textsWord 8 Small decimal (λ (xs : List ℕ). xs) (λ (n : ℕ). n) start bytes out out′ r
 
 abbrev pub BlocksSeen : List ℕ → List ℕ → List ℕ → Section → Type 0
-BlocksSeen bytes out out′ r = SectionSeen blocksWord 256 RightBlock blockLine shapeOf (λ (n : ℕ). n * 4) (counts 0) bytes out out′ r
+BlocksSeen bytes out out′ r = SectionSeen blocksWord 256 RightBlock blockLine shapeOf (λ (n : ℕ). n * blockSize) (counts 0) bytes out out′ r
 
 abbrev pub RulesSeen : List ℕ → List ℕ → List ℕ → Section → Type 0
 RulesSeen bytes out out′ r = SectionSeen rulesWord 16 RightRule ruleLine rulesOf (λ (n : ℕ). n * 3) (blocks 0) bytes out out′ r
@@ -44,10 +45,10 @@ LastRead bytes rs rs′ (last-departs i) = DepartsFrom (blocks 0) bytes i × (i 
 
 -- the blocks and the rules, and nothing after them
 pub record TailIs (bytes bs rs bs′ rs′ : List ℕ) (n m : ℕ) : Type 0 where
-  pub blocks-are : Items 256 RightBlock (shapeOf (take (n * 4) bs′)) n
+  pub blocks-are : Items 256 RightBlock (shapeOf (take (n * blockSize) bs′)) n
   pub rules-are : Items 16 RightRule (rulesOf (take (m * 3) rs′)) m
-  pub whole : bytes ≡ joined (headLine blocksWord n ∷ (map blockLine (shapeOf (take (n * 4) bs′)) ++ (headLine rulesWord m ∷ map ruleLine (rulesOf (take (m * 3) rs′)))))
-  pub blocks-stay : drop (n * 4) bs′ ≡ drop (n * 4) bs
+  pub whole : bytes ≡ joined (headLine blocksWord n ∷ (map blockLine (shapeOf (take (n * blockSize) bs′)) ++ (headLine rulesWord m ∷ map ruleLine (rulesOf (take (m * 3) rs′)))))
+  pub blocks-stay : drop (n * blockSize) bs′ ≡ drop (n * blockSize) bs
   pub rules-stay : drop (m * 3) rs′ ≡ drop (m * 3) rs
 
 abbrev pub TailRead : List ℕ → List ℕ → List ℕ → List ℕ → List ℕ → Tail → Type 0

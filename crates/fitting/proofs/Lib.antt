@@ -1,2 +1,4 @@
--- The laws of rows of marks.
+-- The laws of fitting.
+pub mod Lowest
 pub mod Rows
+pub mod Marks

@@ -1,190 +1,163 @@
--- The laws of rows of marks: what one block adds, and the row of no blocks. Assumes nothing.
-use mathlib.Core.Path.{_≡_, sym, ap, _∙_, subst, subst₂}
+-- The laws of rows of places: steps over held characters, what one block adds, and the row of no blocks. Assumes nothing.
+use mathlib.Core.Path.{_≡_, sym, ap, _∙_, subst}
 use mathlib.Core.List.{List, [], _∷_}
-use mathlib.Core.Logic.{_⊎_, ⊎-elim}
+use mathlib.Core.Logic.{_⊎_, inl, inr, ⊎-elim}
 use Prim.Native.Nat.{ℕ, _+_, _-_, _≤_, _<_}
 use native.Mathlib.Omega.{arith}
-use lib.ListN.{length, getD, take, drop, set, length-drop, length-take, length-set, drop-of-length-le, replicate, length-replicate, getD-replicate}
-use lib.Seq.{getD-drop, getD-take, getD-set-same, getD-set-other, drop-drop}
+use lib.Bits.{bitOr}
+use lib.ListN.{length, getD, take, drop, length-drop, length-take, drop-of-length-le}
+use lib.Seq.{getD-drop, getD-take, drop-drop}
 use Rattle.bases.specs.Base.{Holds}
-use Rattle.bases.proofs.Plain.{lt-or-le, eq-or-ne}
+use Rattle.bases.proofs.Plain.{lt-or-le}
+use Rattle.sets.specs.Set.{Exactly}
+use Rattle.sets.proofs.Exact.{exactly-as, either-exactly}
 use Rattle.shapes.specs.Shape.{Block, Fits}
 use Rattle.shapes.proofs.All.{all-at, all-of}
 use Rattle.shapes.proofs.Fits.{fits-none, none-fits, taken-of-fits, fits-of-taken}
-use Rattle.fitting.specs.Rows.{Says, Row, RunEnd, Nearest, Reaches}
+use Rattle.fitting.specs.Rows.{HeldAt, Steps, StepsUpTo, Row}
 
--- ---- one step of each kind
+-- ---- steps over held places
 
-module _ (base : ℕ) (t : List ℕ) (p : ℕ) where
-  -- at the end of the text
-  pub run-at-end : p ≡ length t → RunEnd base t p p
-  run-at-end e = record { from = omega arith; to = omega arith; held = λ k l h. absurd (omega arith); stop = λ h. absurd (omega arith) }
+module _ (held s : ℕ) where
+  pub steps-none : Exactly s (Steps held s 0)
+  steps-none = record {
+    so = λ p h. record { there = subst (Holds s) (let z : p ≡ p + 0 = omega arith in z) h; each = λ j l. absurd (omega arith) };
+    mark = λ p h. subst (Holds s) (let z : p + 0 ≡ p = omega arith in z) (h .there);
+  }
 
-  -- the character at p is held
-  pub run-longer : (e : ℕ) → Holds base (getD t p 0) → RunEnd base t (p + 1) e → RunEnd base t p e
-  run-longer e h r =
-      let f = r .from in
-      record {
-        from = omega arith;
-        to = r .to;
-        held = λ k l u. ⊎-elim (λ q. subst (λ (x : ℕ). Holds base (getD t x 0)) q h) (λ q. r .held k (omega arith) u) (eq-or-ne p k);
-        stop = r .stop;
+  -- one step, then k
+  pub steps-more : {d n : ℕ} (k : ℕ) → Exactly d (Steps held s k) → Exactly n (λ p. Holds held p × Holds d (p + 1))
+      → Exactly n (Steps held s (k + 1))
+  steps-more k x = exactly-as (λ p h. longer p (h .0) (x .so (p + 1) (h .1))) (λ p h. (first p h, x .mark (p + 1) (shorter p h)))
+    where
+      longer : (p : ℕ) → Holds held p → Steps held s k (p + 1) → Steps held s (k + 1) p
+      longer p h r = record {
+        there = subst (Holds s) (let z : p + 1 + k ≡ p + (k + 1) = omega arith in z) (r .there);
+        each = λ j l. ⊎-elim
+            (λ c. subst (Holds held) (let z : p ≡ p + j = omega arith in z) h)
+            (λ c. subst (Holds held) (let z : p + 1 + (j - 1) ≡ p + j = omega arith in z) (r .each (j - 1) (omega arith)))
+            (lt-or-le j 1);
       }
 
-  -- the character at p is not held
-  pub run-stops : p < length t → (Holds base (getD t p 0) → ⊥) → RunEnd base t p p
-  run-stops l n = record { from = omega arith; to = omega arith; held = λ k g h. absurd (omega arith); stop = λ _. n }
+      first : (p : ℕ) → Steps held s (k + 1) p → Holds held p
+      first p r = subst (Holds held) (let z : p + 0 ≡ p = omega arith in z) (r .each 0 (omega arith))
 
-module _ (row : List ℕ) (n p lower near : ℕ) (h : Nearest row n (p + 1 + lower) near) where
-  pub near-past : n < p + lower → Nearest row n (p + lower) near
-  near-past l =
-      record {
-        hit = λ g. let a = h .hit g .0 in absurd (omega arith);
-        clear = λ q a b. absurd (omega arith);
+      shorter : (p : ℕ) → Steps held s (k + 1) p → Steps held s k (p + 1)
+      shorter p r = record {
+        there = subst (Holds s) (let z : p + (k + 1) ≡ p + 1 + k = omega arith in z) (r .there);
+        each = λ j l. subst (Holds held) (let z : p + (j + 1) ≡ p + 1 + j = omega arith in z) (r .each (j + 1) (omega arith));
       }
 
-  pub near-further : (getD row (p + lower) 0 ≡ 1 → ⊥) → Nearest row n (p + lower) near
-  near-further m =
+  pub up-to-none : Exactly s (StepsUpTo held s 0)
+  up-to-none = exactly-as
+      (λ p h. record { count = 0; within = omega arith; steps = h })
+      (λ p h. let w = h .within in let z : h .count ≡ 0 = omega arith in subst (λ (k : ℕ). Steps held s k p) z (h .steps))
+      steps-none
+
+  -- the places of k + 1 steps are added to those of at most k
+  pub up-to-more : {d r n : ℕ} (k : ℕ) → Exactly r (StepsUpTo held s k) → Exactly d (Steps held s (k + 1)) → n ≡ bitOr r d
+      → Exactly n (StepsUpTo held s (k + 1))
+  up-to-more {d} {r} k x y e = exactly-as so mark (either-exactly r d e)
+    where
+      so : (p : ℕ) → Holds r p ⊎ Holds d p → StepsUpTo held s (k + 1) p
+      so p = ⊎-elim
+          (λ h. let u = x .so p h in record { count = u .count; within = let w = u .within in omega arith; steps = u .steps })
+          (λ h. record { count = k + 1; within = omega arith; steps = y .so p h })
+
+      mark : (p : ℕ) → StepsUpTo held s (k + 1) p → Holds r p ⊎ Holds d p
+      mark p u =
+          let w = u .within in
+          ⊎-elim
+          (λ c. inl (x .mark p (record { count = u .count; within = omega arith; steps = u .steps })))
+          (λ c. let z : u .count ≡ k + 1 = omega arith in inr (y .mark p (subst (λ (k : ℕ). Steps held s k p) z (u .steps))))
+          (lt-or-le (u .count) (k + 1))
+
+-- ---- what one block adds
+
+-- l steps, then k, are l + k, and the other way round
+module _ (held s mid l : ℕ) (x : Exactly mid (Steps held s l)) (p k : ℕ) where
+  joined : Steps held mid k p → Steps held s (l + k) p
+  joined r =
+      let q = x .so (p + k) (r .there) in
       record {
-        hit = λ g. let a = h .hit g in (let b = a .0 in omega arith, a .1);
-        clear = λ q a b u e. ⊎-elim (λ z. m (subst (λ (x : ℕ). getD row x 0 ≡ 1) (sym z) e)) (λ z. h .clear q (omega arith) b u e) (eq-or-ne (p + lower) q);
+        there = subst (Holds s) (let z : p + k + l ≡ p + (l + k) = omega arith in z) (q .there);
+        each = λ j c. ⊎-elim
+            (λ d. r .each j d)
+            (λ d. subst (Holds held) (let z : p + k + (j - k) ≡ p + j = omega arith in z) (q .each (j - k) (omega arith)))
+            (lt-or-le j k);
       }
 
--- ---- the nearest mark decides whether any is reached
+  parted : Steps held s (l + k) p → Steps held mid k p
+  parted r = record {
+    there = x .mark (p + k) (record {
+      there = subst (Holds s) (let z : p + (l + k) ≡ p + k + l = omega arith in z) (r .there);
+      each = λ j c. subst (Holds held) (let z : p + (k + j) ≡ p + k + j = omega arith in z) (r .each (k + j) (omega arith));
+    });
+    each = λ j c. r .each j (omega arith);
+  }
 
-module _ (b : Block) (t row : List ℕ) (p e near : ℕ) (r : RunEnd (b .base) t p e) (g : Nearest row (length t) (p + b .lower) near) where
-  pub reaches : near ≤ e → near ≤ p + b .upper → Reaches b t row p
-  reaches l u =
-      let within : near ≤ length t = let h = r .to in omega arith in
-      record {
-        at = near;
-        enough = g .hit within .0;
-        bounded = u;
-        within = within;
-        held = λ k h q. r .held k h (omega arith);
-        marked = g .hit within .1;
-      }
-
-  pub reached : Reaches b t row p → (near ≤ e) × (near ≤ p + b .upper)
-  reached h =
-      let within = h .within in
-      let bounded = h .bounded in
-      let enough = h .enough in
-      let first : near ≤ h .at = ⊎-elim (λ c. absurd (g .clear (h .at) enough within c (h .marked))) (λ c. c) (lt-or-le (h .at) near) in
-      let last : h .at ≤ e = ⊎-elim
-      (λ c. absurd (r .stop (omega arith) (h .held e (r .from) c))) (λ c. c) (lt-or-le e (h .at)) in
-      (omega arith, omega arith)
-
--- ---- what a block reaches is what it can take
-
-module _ (b : Block) (s : List Block) (t row : List ℕ) (w : Row s t row) (p : ℕ) (l : p ≤ length t) where
-  pub fits-of-reaches : Reaches b t row p → Fits (b ∷ s) (drop p t)
-  fits-of-reaches h =
-      let at = h .at in
-      let enough = h .enough in
-      let bounded = h .bounded in
-      let within = h .within in
-      let from : p ≤ at = omega arith in
+module _ (b : Block) (s : List Block) (t : List ℕ) (held after : ℕ) (h : HeldAt (b .base) t held) (w : Row s t after) (p : ℕ) where
+  fits-of-steps : (k : ℕ) → b .lower ≤ k → k ≤ b .upper → Steps held after k p → (p ≤ length t) × Fits (b ∷ s) (drop p t)
+  fits-of-steps k enough bounded r =
+      let there = w .so (p + k) (r .there) in
+      let short = there .0 in
       let long = length-drop p t in
-      let there : p + (at - p) ≡ at = omega arith in
-      let held : (k : ℕ) → k < length (take (at - p) (drop p t)) → Holds (b .base) (getD (take (at - p) (drop p t)) k 0)
-      = λ k c. let shorter = length-take (at - p) (drop p t) in
-      let small : k < at - p = omega arith in
-      subst (Holds (b .base)) (sym (getD-take (at - p) (drop p t) k 0 small ∙ getD-drop p t k 0)) (h .held (p + k) (omega arith) (omega arith)) in
-      fits-of-taken (drop p t)
-      (record {
-        count = at - p;
-        within = omega arith;
-        enough = omega arith;
-        bounded = omega arith;
-        held = all-of _ 0 held;
-        rest = subst (Fits s) (sym (drop-drop (at - p) p t ∙ ap (λ (x : ℕ). drop x t) there)) (w .says at within .so (h .marked));
-      })
+      let taken : (j : ℕ) → j < length (take k (drop p t)) → Holds (b .base) (getD (take k (drop p t)) j 0)
+      = λ j c. let cut = length-take k (drop p t) in
+      let small : j < k = omega arith in
+      subst (Holds (b .base)) (sym (getD-take k (drop p t) j 0 small ∙ getD-drop p t j 0)) (h .so (p + j) (r .each j small) .1) in (
+        omega arith,
+        fits-of-taken (drop p t) (record {
+          count = k;
+          within = omega arith;
+          enough = enough;
+          bounded = bounded;
+          held = all-of _ 0 taken;
+          rest = subst (Fits s) (sym (drop-drop k p t)) (there .1);
+        }),
+      )
 
-  pub reaches-of-fits : Fits (b ∷ s) (drop p t) → Reaches b t row p
-  reaches-of-fits h =
-      let k = taken-of-fits h in
-      let enough = k .enough in
-      let bounded = k .bounded in
-      let within = k .within in
+  steps-of-fits : p ≤ length t → Fits (b ∷ s) (drop p t) → (k : ℕ) × (b .lower ≤ k) × (k ≤ b .upper) × (p + k ≤ length t) × Steps held after k p
+  steps-of-fits l f =
+      let g = taken-of-fits f in
+      let k = g .count in
+      let within = g .within in
       let long = length-drop p t in
-      let short : p + k .count ≤ length t = omega arith in
-      record {
-        at = p + k .count;
-        enough = omega arith;
-        bounded = omega arith;
-        within = short;
-        held = λ j c d.
-            let there : p + (j - p) ≡ j = omega arith in
-            let small : j - p < k .count = omega arith in
-            let cut = length-take (k .count) (drop p t) in
-            subst (Holds (b .base)) (getD-take (k .count) (drop p t) (j - p) 0 small ∙ getD-drop p t (j - p) 0 ∙ ap (λ (x : ℕ). getD t x 0) there)
-            (all-at 0 (k .held) (j - p) (omega arith));
-        marked = w .says (p + k .count) short .mark (subst (Fits s) (drop-drop (k .count) p t) (k .rest));
-      }
+      let short : p + k ≤ length t = omega arith in
+      let there = w .mark (p + k) (short, subst (Fits s) (drop-drop k p t) (g .rest)) in
+      let taken : (j : ℕ) → j < k → Holds (b .base) (getD t (p + j) 0)
+      = λ j c. let cut = length-take k (drop p t) in
+      subst (Holds (b .base)) (getD-take k (drop p t) j 0 c ∙ getD-drop p t j 0) (all-at 0 (g .held) j (omega arith)) in
+      (k, g .enough, g .bounded, short, record { there = there; each = λ j c. h .mark (p + j) (omega arith, taken j c) })
 
--- a row that marks what the block reaches is the row of the block and those after it
-pub row-next : (b : Block) (s : List Block) (t after row : List ℕ) → length row ≡ 251 → ((p : ℕ) → p ≤ length t → Says (getD row p 0) (Reaches b t after p))
+-- `most` steps more than the lower are as good as upper - lower: the text is no longer
+pub row-next : (b : Block) (s : List Block) (t : List ℕ) (held after mid most row : ℕ)
+    → b .lower ≤ b .upper → most ≤ b .upper - b .lower → ((k : ℕ) → k ≤ b .upper - b .lower → k ≤ length t → k ≤ most)
+    → HeldAt (b .base) t held → Exactly mid (Steps held after (b .lower)) → Exactly row (StepsUpTo held mid most)
     → Row s t after → Row (b ∷ s) t row
-row-next b s t after row long says w =
-    record {
-      long = long;
-      says = λ p l. record { so = λ e. fits-of-reaches b s t after w p l (says p l .so e); mark = λ f. says p l .mark (reaches-of-fits b s t after w p l f) };
-    }
+row-next b s t held after mid most row ordered few enough h x y w = exactly-as so mark y
+  where
+    so : (p : ℕ) → StepsUpTo held mid most p → (p ≤ length t) × Fits (b ∷ s) (drop p t)
+    so p u =
+        let c = u .within in
+        fits-of-steps b s t held after h w p (b .lower + u .count) (omega arith) (omega arith) (joined held after mid (b .lower) x p (u .count) (u .steps))
 
--- the row of no blocks
-pub row-last : (t row : List ℕ) → length row ≡ 251 → getD row (length t) 0 ≡ 1 → ((p : ℕ) → p < length t → getD row p 0 ≡ 1 → ⊥) → Row [] t row
-row-last t row long there only =
-    record {
-      long = long;
-      says = λ p l.
-          record {
-            so = λ e. ⊎-elim (λ c. absurd (only p c e)) (λ c. subst (Fits []) (sym (drop-of-length-le t c)) fits-none) (lt-or-le p (length t));
-            mark = λ f.
-                let none : length (drop p t) ≡ 0 = ap length (none-fits f) in
-                let cut = length-drop p t in
-                let last : length t ≡ p = omega arith in
-                subst (λ (x : ℕ). getD row x 0 ≡ 1) last there;
-          };
-    }
+    mark : (p : ℕ) → (p ≤ length t) × Fits (b ∷ s) (drop p t) → StepsUpTo held mid most p
+    mark p f =
+        let g = steps-of-fits b s t held after h w p (f .0) (f .1) in
+        let k : ℕ = g .0 - b .lower in
+        let low = g .1 in
+        let high = g .2 in
+        let short = g .3 in
+        let whole : g .0 ≡ b .lower + k = omega arith in
+        record {
+          count = k;
+          within = enough k (omega arith) (omega arith);
+          steps = parted held after mid (b .lower) x p k (subst (λ (n : ℕ). Steps held after n p) whole (g .4));
+        }
 
--- ---- the row that a loop writes, from the end to the start
-
--- every mark from p on says what the block reaches
-pub record MarkedFrom (b : Block) (t after : List ℕ) (p : ℕ) (row : List ℕ) : Type 0 where
-  pub long : length row ≡ 251
-  pub says : (q : ℕ) → p ≤ q → q ≤ length t → Says (getD row q 0) (Reaches b t after q)
-
-pub marked-next : (b : Block) (t after : List ℕ) (p v : ℕ) (row : List ℕ) → p < 251 → Says v (Reaches b t after p) → MarkedFrom b t after (p + 1) row
-    → MarkedFrom b t after p (set row p v)
-marked-next b t after p v row small h m =
-    record {
-      long = length-set row p v ∙ m .long;
-      says = λ q l u. ⊎-elim
-          (λ e. subst₂ (λ (x y : ℕ). Says x (Reaches b t after y)) (sym (ap (λ (y : ℕ). getD (set row p v) y 0) (sym e) ∙ getD-set-same row p v 0 (let g = m .long in omega arith))) e h)
-          (λ e. subst (λ (x : ℕ). Says x (Reaches b t after q)) (sym (getD-set-other row p q v 0 (λ z. e (sym z)))) (m .says q (omega arith) u))
-          (eq-or-ne p q);
-    }
-
-pub marked-none : (b : Block) (t after row : List ℕ) (p : ℕ) → row ≡ replicate 251 0 → length t < p → MarkedFrom b t after p row
-marked-none b t after row p e h = record { long = ap length e ∙ length-replicate {A = ℕ} 251 0; says = λ q l u. absurd (omega arith) }
-
-pub near-none : (row : List ℕ) (n from near : ℕ) → n < near → n < from → Nearest row n from near
-near-none row n from near h l = record { hit = λ g. absurd (omega arith); clear = λ q a b. absurd (omega arith) }
-
-pub near-after : (row : List ℕ) (n p lower near : ℕ) → p ≤ n → Nearest row n (p + lower) near → p ≤ near
-near-after row n p lower near l h = ⊎-elim (λ g. omega arith) (λ g. let a = h .hit g .0 in omega arith) (lt-or-le n near)
-
--- one mark at the end of the text
-pub row-of-end : (t row : List ℕ) (n : ℕ) → row ≡ replicate 251 0 → n ≡ length t → n ≤ 250 → Row [] t (set row n 1)
-row-of-end t row n e l h =
-    let long : length row ≡ 251 = ap length e ∙ length-replicate {A = ℕ} 251 0 in
-    row-last t (set row n 1) (length-set row n 1 ∙ long)
-    (ap (λ (x : ℕ). getD (set row n 1) x 0) (sym l) ∙ getD-set-same row n 1 0 (omega arith))
-    (λ p g m.
-    let other : getD (set row n 1) p 0 ≡ getD row p 0 = getD-set-other row n p 1 0 (λ z. omega arith) in
-    let blank : getD row p 0 ≡ 0 = ap (λ (r : List ℕ). getD r p 0) e ∙ getD-replicate 251 p 0 0 (omega arith) in
-    omega arith)
-
-pub says-map : {v : ℕ} {P Q : Type 0} → (P → Q) → (Q → P) → Says v P → Says v Q
-says-map f g s = record { so = λ e. f (s .so e); mark = λ q. s .mark (g q) }
+-- the row of no blocks: the end of the text alone
+pub row-last : (t : List ℕ) {row : ℕ} → Exactly row (λ p. p ≡ length t) → Row [] t row
+row-last t = exactly-as
+    (λ p e. (omega arith, subst (Fits []) (sym (drop-of-length-le t (let z : length t ≤ p = omega arith in z))) fits-none))
+    (λ p f. let none : length (drop p t) ≡ 0 = ap length (none-fits (f .1)) in let cut = length-drop p t in let l = f .0 in omega arith)

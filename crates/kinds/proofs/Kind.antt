@@ -6,23 +6,27 @@ use Prim.Native.Nat.{ℕ, zero, suc, _≤_}
 use native.Mathlib.Omega.{arith}
 use borrow.Author.Tests.{eq-eqb, ne-eqb}
 use lib.Dec.{eqb}
-use Rattle.shapes.specs.Lent.{Accepted}
+use lib.ListN.{length}
+use Rattle.shapes.specs.Lent.{Whole, Accepted}
 use Rattle.texts.specs.Kind.{relationOf, lastKind}
 use Rattle.texts.specs.Order.{AtMost, Before}
 use Rattle.pairs.specs.Narrow.{NarrowAnswer}
 use Rattle.rests.specs.Walk.{Same}
-use Rattle.equals.specs.Inner.{Whole}
 
 pub whole : {xs : List ℕ} → Accepted xs → Whole xs
 whole a = record { blocks = a .right .whole; sound = a .sound; short = a .short }
 
-module _ {xs ys w ox oy w′ ox′ oy′ : List ℕ} {r : Bool} where
-  pub by-equality : (k : ℕ) → k ≡ 0 → NarrowAnswer Same xs ys w ox oy w′ ox′ oy′ r → NarrowAnswer (relationOf k) xs ys w ox oy w′ ox′ oy′ r
-  unfolding relationOf
-  by-equality k e a = subst (λ (n : ℕ). NarrowAnswer (relationOf n) xs ys w ox oy w′ ox′ oy′ r) (sym e) a
+-- and has few numbers
+pub few : {xs : List ℕ} → Accepted xs → length xs ≤ 256
+few a = let n = a .right .few in let w = a .right .whole in omega arith
 
-  pub by-order : (k : ℕ) → k ≤ lastKind → (k ≡ 0 → ⊥) → (not (eqb k 1) ≡ false → NarrowAnswer AtMost xs ys w ox oy w′ ox′ oy′ r)
-      → (not (eqb k 1) ≡ true → NarrowAnswer Before xs ys w ox oy w′ ox′ oy′ r) → NarrowAnswer (relationOf k) xs ys w ox oy w′ ox′ oy′ r
+module _ {xs ys ox oy ox′ oy′ : List ℕ} {r : Bool} where
+  pub by-equality : (k : ℕ) → k ≡ 0 → NarrowAnswer Same xs ys ox oy ox′ oy′ r → NarrowAnswer (relationOf k) xs ys ox oy ox′ oy′ r
+  unfolding relationOf
+  by-equality k e a = subst (λ (n : ℕ). NarrowAnswer (relationOf n) xs ys ox oy ox′ oy′ r) (sym e) a
+
+  pub by-order : (k : ℕ) → k ≤ lastKind → (k ≡ 0 → ⊥) → (not (eqb k 1) ≡ false → NarrowAnswer AtMost xs ys ox oy ox′ oy′ r)
+      → (not (eqb k 1) ≡ true → NarrowAnswer Before xs ys ox oy ox′ oy′ r) → NarrowAnswer (relationOf k) xs ys ox oy ox′ oy′ r
   unfolding relationOf
   by-order zero h n a b = absurd (n refl)
   by-order (suc zero) h n a b = a (ap not (eq-eqb 1 1 refl))

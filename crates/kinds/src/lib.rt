@@ -4,31 +4,29 @@ use answers::Narrowed;
 ghost use Prim.Native.Nat.{_≤_};
 ghost use lib.ListN.{length};
 ghost use Rattle.texts.specs.Kind.{relationOf, lastKind};
-ghost use Rattle.pairs.specs.Pair.{PairAccepted, Room};
+ghost use Rattle.pairs.specs.Pair.{PairAccepted};
 ghost use Rattle.pairs.specs.Narrow.{NarrowAnswer, NarrowPromise};
 
-// The work, of two accepted shapes with enough room.
+// Narrows two accepted shapes into outputs with enough room.
 pub fn narrow_accepted(
     kind: u64,
     x: &[u64],
     y: &[u64],
-    work: &mut [u8],
     out_x: &mut [u64],
     out_y: &mut [u64],
 ) -> bool
     requires { ⌜ kind ≤ lastKind ⌝ }
     requires { ⌜ PairAccepted (now x) (now y) ⌝ }
-    requires { ⌜ Room (now x) (now y) (length (now work)) (length (now «out_x»)) (length (now «out_y»)) ⌝ }
-    ensures { λ r. ⌜ NarrowAnswer (relationOf kind) (now (x .entry)) (now (y .entry)) (now (work .entry)) (now («out_x» .entry)) (now («out_y» .entry))
-        (now (work .exit)) (now («out_x» .exit)) (now («out_y» .exit)) r ⌝ }
+    requires { ⌜ (length (now x) ≤ length (now «out_x»)) × (length (now y) ≤ length (now «out_y»)) ⌝ }
+    ensures { λ r. ⌜ NarrowAnswer (relationOf kind) (now (x .entry)) (now (y .entry)) (now («out_x» .entry)) (now («out_y» .entry)) (now («out_x» .exit)) (now («out_y» .exit)) r ⌝ }
 {
     if kind == 0 {
-        return equals::narrow_equal(x, y, work, out_x, out_y);
+        return equals::narrow_equal(x, y, out_x, out_y);
     }
-    orders::narrow_order(kind != 1, x, y, work, out_x, out_y)
+    orders::narrow_order(kind != 1, x, y, out_x, out_y)
 }
 
-// The call: the refusals of a pair, then the work.
+// The call: the refusals of a pair, then the narrowing; the work buffer is handed back cleared.
 pub fn narrow(
     kind: u64,
     x: &[u64],
@@ -44,7 +42,8 @@ pub fn narrow(
     match pairs::check_narrow(x, y, work.len(), out_x.len(), out_y.len()) {
         Checked::Refused(r) => Narrowed::Refused(r),
         Checked::Sound => {
-            if narrow_accepted(kind, x, y, work, out_x, out_y) {
+            pairs::clear(work);
+            if narrow_accepted(kind, x, y, out_x, out_y) {
                 return Narrowed::Narrow;
             }
             Narrowed::None

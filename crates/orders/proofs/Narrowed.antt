@@ -8,7 +8,7 @@ use lib.ListN.{length, getD, take, drop}
 use lib.Seq.{take-at, getD-take}
 use Rattle.shapes.specs.All.{All}
 use Rattle.shapes.specs.Shape.{Block, Small, textOf}
-use Rattle.shapes.specs.Lent.{shapeOf, Accepted}
+use Rattle.shapes.specs.Lent.{Whole, shapeOf, Accepted}
 use Rattle.shapes.proofs.All.{all-at}
 use Rattle.shapes.proofs.Fits.{fits-length}
 use Rattle.texts.specs.Order.{AtMost, Before}
@@ -18,15 +18,12 @@ use Rattle.extremes.specs.Steps.{extreme}
 use Rattle.extremes.specs.Extreme.{Extreme, TextWritten}
 use Rattle.hulls.specs.Hull.{None, Hull}
 use Rattle.hulls.proofs.Hull.{same-rule}
-use Rattle.tables.specs.Table.{Same-rest}
-use Rattle.pairs.specs.Narrow.{cleared, Narrows, NarrowAnswer}
-use Rattle.equals.specs.Inner.{Whole}
-use Rattle.equals.proofs.Sides.{cleared-rest}
-use Rattle.guides.specs.Sides.{Side}
-use Rattle.guides.specs.Shown.{Plain}
-use Rattle.guides.proofs.Sides.{side-at-most, at-most-side, side-before, before-side, side-at-least, at-least-side, side-after, after-side}
-use Rattle.side_hulls.specs.Narrowed.{OneNarrowed, One}
-use Rattle.side_hulls.proofs.Hulls.{text-small}
+use Rattle.pairs.specs.Narrow.{Narrows, NarrowAnswer}
+use Rattle.order_guides.specs.Sides.{Side}
+use Rattle.order_guides.specs.Guide.{Plain}
+use Rattle.order_guides.proofs.Sides.{side-at-most, at-most-side, side-before, before-side, side-at-least, at-least-side, side-after, after-side}
+use Rattle.order_texts.specs.Narrowed.{OneNarrowed, One}
+use Rattle.order_texts.proofs.Answers.{text-small}
 use Rattle.orders.specs.Ordered.{Ordered}
 use Rattle.orders.proofs.Ordered.{at-most-ordered, before-ordered, of-least, fitting, order-hull, order-none}
 
@@ -114,19 +111,17 @@ module _ {R : List ℕ → List ℕ → Type 0} {strict : Bool} (f : Faced R str
     second-output = b .words;
   }
 
-  pub says-none : {w w₁ w′ ox oy ox′ : List ℕ} {q : Bool} → q ≡ false → One (λ g. Side Least strict (textOf g) M) x ox ox′ q → Same-rest w w₁ → w′ ≡ cleared 63001 w₁ → NarrowAnswer R x y w ox oy w′ ox′ oy false
-  says-none n a s e = record {
+  pub says-none : {ox oy ox′ : List ℕ} {q : Bool} → q ≡ false → One (λ g. Side Least strict (textOf g) M) x ox ox′ q → NarrowAnswer R x y ox oy ox′ oy false
+  says-none n a = record {
     both = λ z. true-false (sym z);
     neither = λ z. record { none = order-none R (f .ordered) m M least greatest (never-first (a .none n)); first-output = a .kept n; second-output = refl };
-    work-cleared = e ∙ cleared-rest 63001 _ _ (s .rest);
   }
 
-  pub says-some : {w w₁ w₂ w′ ox oy ox′ oy′ : List ℕ} {q r : Bool} → q ≡ true → One (λ g. Side Least strict (textOf g) M) x ox ox′ q → One (λ g. Side Greatest strict (textOf g) m) y oy oy′ r
-      → Same-rest w w₁ → Same-rest w₁ w₂ → w′ ≡ cleared 63001 w₂ → NarrowAnswer R x y w ox oy w′ ox′ oy′ r
-  says-some n a b s t e =
+  pub says-some : {ox oy ox′ oy′ : List ℕ} {q r : Bool} → q ≡ true → One (λ g. Side Least strict (textOf g) M) x ox ox′ q → One (λ g. Side Greatest strict (textOf g) m) y oy oy′ r
+      → NarrowAnswer R x y ox oy ox′ oy′ r
+  says-some n a b =
       let p = a .some n in
       record {
         both = λ z. both-of p (b .some z);
         neither = λ z. absurd (never-second (meet (p .hull)) (b .none z));
-        work-cleared = e ∙ cleared-rest 63001 _ _ (t .rest ∙ s .rest);
       }

@@ -8,11 +8,9 @@ ghost use Rattle.shapes.specs.Shape.{textOf};
 ghost use Rattle.shapes.specs.Lent.{shapeOf, Accepted};
 ghost use Rattle.texts.specs.Order.{AtMost, Before};
 ghost use Rattle.extremes.specs.Steps.{extreme};
-ghost use Rattle.tables.specs.Table.{Same-rest};
 ghost use Rattle.pairs.specs.Narrow.{NarrowAnswer};
-ghost use Rattle.pairs.specs.Pair.{Room};
-ghost use Rattle.guides.specs.Sides.{Side};
-ghost use Rattle.side_hulls.specs.Narrowed.{One};
+ghost use Rattle.order_guides.specs.Sides.{Side};
+ghost use Rattle.order_texts.specs.Narrowed.{One};
 
 // No text yet.
 fn blank_text() -> [u8; 250]
@@ -28,56 +26,36 @@ fn narrow_by(
     strict: bool,
     x: &[u64],
     other: &[u64],
-    work: &mut [u8],
     out: &mut [u64],
 ) -> bool
     requires { ⌜ Accepted (now x) ⌝ }
     requires { ⌜ Accepted (now other) ⌝ }
-    requires { ⌜ (63001 ≤ length (now work)) × (length (now x) ≤ length (now out)) ⌝ }
+    requires { ⌜ length (now x) ≤ length (now out) ⌝ }
     ensures { λ r. ⌜ One (λ f. Side d strict (textOf f) (extreme e (shapeOf (now (other .entry))))) (now (x .entry)) (now (out .entry)) (now (out .exit)) r ⌝ }
-    ensures { λ _. ⌜ Same-rest (now (work .entry)) (now (work .exit)) ⌝ }
 {
     let mut text = blank_text();
     let m = extremes::write_extreme(e, other, &mut text);
-    side_hulls::narrow_side(d, strict, x, &text, m, work, out)
+    order_texts::narrow_side(d, strict, x, &text, m, out)
 }
 
 // Narrows x to what is at most (before) the greatest text of y.
-fn narrow_first(strict: bool, x: &[u64], y: &[u64], work: &mut [u8], out: &mut [u64]) -> bool
+fn narrow_first(strict: bool, x: &[u64], y: &[u64], out: &mut [u64]) -> bool
     requires { ⌜ Accepted (now x) ⌝ }
     requires { ⌜ Accepted (now y) ⌝ }
-    requires { ⌜ (63001 ≤ length (now work)) × (length (now x) ≤ length (now out)) ⌝ }
+    requires { ⌜ length (now x) ≤ length (now out) ⌝ }
     ensures { λ r. ⌜ One (λ f. Side Direction.Least strict (textOf f) (extreme Direction.Greatest (shapeOf (now (y .entry))))) (now (x .entry)) (now (out .entry)) (now (out .exit)) r ⌝ }
-    ensures { λ _. ⌜ Same-rest (now (work .entry)) (now (work .exit)) ⌝ }
 {
-    narrow_by(
-        Direction::Least,
-        Direction::Greatest,
-        strict,
-        x,
-        y,
-        work,
-        out,
-    )
+    narrow_by(Direction::Least, Direction::Greatest, strict, x, y, out)
 }
 
 // Narrows y to what is at least (after) the least text of x.
-fn narrow_second(strict: bool, x: &[u64], y: &[u64], work: &mut [u8], out: &mut [u64]) -> bool
+fn narrow_second(strict: bool, x: &[u64], y: &[u64], out: &mut [u64]) -> bool
     requires { ⌜ Accepted (now x) ⌝ }
     requires { ⌜ Accepted (now y) ⌝ }
-    requires { ⌜ (63001 ≤ length (now work)) × (length (now y) ≤ length (now out)) ⌝ }
+    requires { ⌜ length (now y) ≤ length (now out) ⌝ }
     ensures { λ r. ⌜ One (λ f. Side Direction.Greatest strict (textOf f) (extreme Direction.Least (shapeOf (now (x .entry))))) (now (y .entry)) (now (out .entry)) (now (out .exit)) r ⌝ }
-    ensures { λ _. ⌜ Same-rest (now (work .entry)) (now (work .exit)) ⌝ }
 {
-    narrow_by(
-        Direction::Greatest,
-        Direction::Least,
-        strict,
-        y,
-        x,
-        work,
-        out,
-    )
+    narrow_by(Direction::Greatest, Direction::Least, strict, y, x, out)
 }
 
 // Narrows two shapes under "x at most y", or under "x before y" if strict: x by the greatest text of y, then y by the least text of x.
@@ -85,21 +63,17 @@ pub fn narrow_order(
     strict: bool,
     x: &[u64],
     y: &[u64],
-    work: &mut [u8],
     out_x: &mut [u64],
     out_y: &mut [u64],
 ) -> bool
     requires { ⌜ Accepted (now x) ⌝ }
     requires { ⌜ Accepted (now y) ⌝ }
-    requires { ⌜ Room (now x) (now y) (length (now work)) (length (now «out_x»)) (length (now «out_y»)) ⌝ }
-    ensures { λ r. ⌜ (strict ≡ false → NarrowAnswer AtMost (now (x .entry)) (now (y .entry)) (now (work .entry)) (now («out_x» .entry)) (now («out_y» .entry)) (now (work .exit)) (now («out_x» .exit)) (now («out_y» .exit)) r) ⌝ }
-    ensures { λ r. ⌜ (strict ≡ true → NarrowAnswer Before (now (x .entry)) (now (y .entry)) (now (work .entry)) (now («out_x» .entry)) (now («out_y» .entry)) (now (work .exit)) (now («out_x» .exit)) (now («out_y» .exit)) r) ⌝ }
+    requires { ⌜ (length (now x) ≤ length (now «out_x»)) × (length (now y) ≤ length (now «out_y»)) ⌝ }
+    ensures { λ r. ⌜ (strict ≡ false → NarrowAnswer AtMost (now (x .entry)) (now (y .entry)) (now («out_x» .entry)) (now («out_y» .entry)) (now («out_x» .exit)) (now («out_y» .exit)) r) ⌝ }
+    ensures { λ r. ⌜ (strict ≡ true → NarrowAnswer Before (now (x .entry)) (now (y .entry)) (now («out_x» .entry)) (now («out_y» .entry)) (now («out_x» .exit)) (now («out_y» .exit)) r) ⌝ }
 {
-    if !narrow_first(strict, x, y, work, out_x) {
-        equals::clear(work);
+    if !narrow_first(strict, x, y, out_x) {
         return false;
     }
-    let done = narrow_second(strict, x, y, work, out_y);
-    equals::clear(work);
-    done
+    narrow_second(strict, x, y, out_y)
 }

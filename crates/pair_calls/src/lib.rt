@@ -11,7 +11,7 @@ pub fn sweep(x: &[u64], y: &[u64], out: &mut [u64]) -> Swept
     match pairs::check_pair(x, y) {
         Checked::Refused(r) => Swept::Refused(r),
         Checked::Sound => {
-            if out.len() < x.len() / 4 * 2 {
+            if out.len() < x.len() / shapes::SIZE * 2 {
                 return Swept::Refused(Refusal::Output(0));
             }
             sweeps::sweep_shapes(x, y, out)

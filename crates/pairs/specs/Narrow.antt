@@ -35,10 +35,9 @@ pub record NoPair (R : List ℕ → List ℕ → Type 0) (xs ys ox oy ox′ oy�
   pub second-output : oy′ ≡ oy
 
 -- What the work of narrowing two accepted shapes answers, true exactly if there is a pair.
-pub record NarrowAnswer (R : List ℕ → List ℕ → Type 0) (xs ys work ox oy work′ ox′ oy′ : List ℕ) (r : Bool) : Type 0 where
+pub record NarrowAnswer (R : List ℕ → List ℕ → Type 0) (xs ys ox oy ox′ oy′ : List ℕ) (r : Bool) : Type 0 where
   pub both : r ≡ true → Narrows R xs ys ox oy ox′ oy′
   pub neither : r ≡ false → NoPair R xs ys ox oy ox′ oy′
-  pub work-cleared : Cleared work work′
 
 pub record Accepts (xs ys work ox oy work′ : List ℕ) : Type 0 where
   pub shapes : PairAccepted xs ys

@@ -1,6 +1,9 @@
 // The refusals of a pair of shapes, in their order.
 use answers::Checked;
 use answers::Refusal;
+ghost use Prim.Native.Nat.{_≤_};
+ghost use lib.ListN.{length};
+ghost use Rattle.pairs.specs.Narrow.{Cleared};
 ghost use Rattle.pairs.specs.Pair.{PairAccepted, PairChecked, NarrowChecked};
 
 // 1, 2, 3 of the first shape, then of the second.
@@ -38,4 +41,16 @@ fn check_room(x: &[u64], y: &[u64], work: usize, first: usize, second: usize) ->
         return Checked::Refused(Refusal::Output(2));
     }
     Checked::Sound
+}
+
+// Sets the work buffer to 0, as far as a call may use it.
+pub fn clear(work: &mut [u8])
+    requires { ⌜ 63001 ≤ length (now work) ⌝ }
+    ensures { λ _. ⌜ Cleared (now (work .entry)) (now (work .exit)) ⌝ }
+{
+    let mut k = 0;
+    while k < 63001 {
+        work[k] = 0;
+        k += 1;
+    }
 }

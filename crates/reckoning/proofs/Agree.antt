@@ -2,12 +2,11 @@
 use mathlib.Core.Path.{_≡_}
 use mathlib.Core.List.{List, _++_}
 use Prim.Native.Nat.{ℕ}
-use Rattle.shapes.specs.Lent.{shapeOf}
+use Rattle.shapes.specs.Lent.{Whole, shapeOf}
 use Rattle.hulls.specs.Hull.{none, shapes, to-none, to-shapes}
 use Rattle.hulls.proofs.Hull.{one-outcome}
 use Rattle.rests.specs.Walk.{Same}
 use Rattle.pairs.specs.Narrow.{Narrows, NoPair}
-use Rattle.equals.specs.Inner.{Whole}
 use Rattle.reckoning.specs.Equal.{equalHull}
 use Rattle.reckoning.proofs.Exact.{equal-exact}
 

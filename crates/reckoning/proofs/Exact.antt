@@ -5,7 +5,7 @@ use mathlib.Core.List.{List, [], _++_}
 use Prim.Native.Nat.{ℕ, suc, _+_, _-_, _≤_, _<_}
 use native.Mathlib.Omega.{arith}
 use borrow.Author.Tests.{eqb-true, eqb-false}
-use lib.Dec.{eqb}
+use lib.Dec.{eqb, ltb}
 use lib.ListN.{length, getD, take}
 use Rattle.bases.specs.Tells.{Tells}
 use Rattle.shapes.specs.All.{All}
@@ -16,14 +16,11 @@ use Rattle.rests.specs.Collect.{Collected}
 use Rattle.rests.proofs.Walks.{turn-path}
 use Rattle.rests.proofs.Laid.{bounded}
 use Rattle.rests.proofs.Tight.{place, equal-none, equal-hull, some-first}
-use Rattle.marks.specs.Marks.{Told}
-use Rattle.lengths.specs.Length.{Gathered}
-use Rattle.equals.proofs.Table.{turn-told, gathered-collected}
-use Rattle.reckoning.specs.Equal.{at, listed, lastRows, froms, mark, marks, tableOf, cellOf, blocksOf, outcome, fromTable, equalHull}
-use Rattle.reckoning.proofs.Tests.{tells-so, listed-at}
+use Rattle.reckoning.specs.Equal.{and, at, listed, lastRows, froms, mark, marks, tableOf, cellOf, blocksOf, outcome, fromTable, equalHull}
+use Rattle.reckoning.proofs.Tests.{tells-and, tells-as, tells-so, tells-ltb, listed-at}
 use Rattle.reckoning.proofs.Finish.{RowsFrom, last-rows}
 use Rattle.reckoning.proofs.Reach.{RowsTo, first-rows}
-use Rattle.reckoning.proofs.Gather.{blocks-size, blocks-say}
+use Rattle.reckoning.proofs.Gather.{Told, turn-told, block-says, blocks-size, blocks-at}
 
 -- ---- the table
 
@@ -35,27 +32,18 @@ cell-mark U W b f i j h g =
     ∙ ap (λ (k : ℕ). mark (at (getD b k []) (0 + j)) (at (getD f (U - k) []) (W - (0 + j)))) (let e : 0 + i ≡ i = omega arith in e)
     ∙ ap (λ (k : ℕ). mark (at (getD b i []) k) (at (getD f (U - i) []) (W - k))) (let e : 0 + j ≡ j = omega arith in e)
 
-mark-live : (b f : Bool) → 0 < mark b f → b ≡ true
+-- what a mark tells of the two passes
+mark-live : (b f : Bool) → ltb 0 (mark b f) ≡ b
 unfolding mark
-mark-live true f h = refl
-mark-live false f h = absurd (omega arith)
+mark-live true true = refl
+mark-live true false = refl
+mark-live false f = refl
 
-live-mark : (b f : Bool) → b ≡ true → 0 < mark b f
-live-mark b f e = subst (λ (x : Bool). 0 < mark x f) (sym e) (live f)
-  where
-    live : (f : Bool) → 0 < mark true f
-    live true = unfold mark in (omega arith)
-    live false = unfold mark in (omega arith)
-
-mark-reached : (b f : Bool) → mark b f ≡ 2 → f ≡ true
-unfolding mark
-mark-reached true true h = refl
-mark-reached true false h = absurd (omega arith)
-mark-reached false f h = absurd (omega arith)
-
-reached-mark : (b f : Bool) → b ≡ true → f ≡ true → mark b f ≡ 2
-unfolding mark
-reached-mark b f p q = ap (λ (x : Bool). mark x f) p ∙ ap (mark true) q
+mark-both : (b f : Bool) → eqb (mark b f) 2 ≡ and b f
+unfolding mark and
+mark-both true true = refl
+mark-both true false = refl
+mark-both false f = refl
 
 module _ {X Y : ℕ → Block} {U W : ℕ} {b f : List (List Bool)} (rb : RowsFrom X Y U W 0 b) (rf : RowsTo X Y W (suc U) f) where
   finishing : (i j : ℕ) → i ≤ U → j ≤ W → Tells (at (getD b i []) j) (Path X Y U W i j)
@@ -66,10 +54,8 @@ module _ {X Y : ℕ → Block} {U W : ℕ} {b f : List (List Bool)} (rb : RowsFr
 
   told-marks : Told X Y U W (cellOf (marks U W b f))
   told-marks = record {
-    ends = λ i j h g v. finishing i j h g .so (mark-live _ _ (subst (λ (z : ℕ). 0 < z) (cell-mark U W b f i j h g) v));
-    live = λ i j h g p. subst (λ (z : ℕ). 0 < z) (sym (cell-mark U W b f i j h g)) (live-mark _ _ (tells-so (finishing i j h g) p));
-    reached = λ i j h g v. reaching i j h g .so (mark-reached (at (getD b i []) j) _ (sym (cell-mark U W b f i j h g) ∙ v));
-    marked = λ i j h g p q. cell-mark U W b f i j h g ∙ reached-mark _ _ (tells-so (finishing i j h g) q) (tells-so (reaching i j h g) p);
+    live = λ i j h g. tells-as (ap (λ (v : ℕ). ltb 0 v) (cell-mark U W b f i j h g) ∙ mark-live _ _) (finishing i j h g);
+    marked = λ i j h g. tells-as (ap (λ (v : ℕ). eqb v 2) (cell-mark U W b f i j h g) ∙ mark-both _ _) (tells-and _ (finishing i j h g) (λ z. reaching i j h g));
   }
 
 pub told-table : {X Y : ℕ → Block} {U W : ℕ} → Bounded X U → Bounded Y W → Told X Y U W (cellOf (tableOf X Y U W))
@@ -84,9 +70,8 @@ told-table {X} {Y} {U} {W} x y = told-marks
 module _ (X Y : List Block) (gx : All Sound X) (gy : All Sound Y) {T : ℕ → ℕ → ℕ} (t : Told (slotAt X) (slotAt Y) (total X) (total Y) T) where
   side : (p : Path (slotAt X) (slotAt Y) (total X) (total Y) 0 0) (i : ℕ) → i < length X
       → Collected (slotAt X) (slotAt Y) (total X) (total Y) (total (take i X)) (getD X i noBlock) (getD (blocksOf T (slotAt Y) (total Y) 0 X) i noBlock)
-  side p i h = gathered-collected (place X Y gx i h) t (λ j l. refl) (some-first X Y gx gy p i h .1)
-      (subst (λ (z : ℕ). Gathered T (slotAt Y) (total Y) z (getD X i noBlock) (getD (blocksOf T (slotAt Y) (total Y) 0 X) i noBlock))
-      (let e : 0 + total (take i X) ≡ total (take i X) = omega arith in e) (blocks-say T (slotAt Y) (total Y) 0 X i h))
+  side p i h = subst (Collected (slotAt X) (slotAt Y) (total X) (total Y) (total (take i X)) (getD X i noBlock)) (sym (blocks-at T (slotAt Y) (total Y) 0 (total (take i X)) X i h (omega arith)))
+      (block-says (place X Y gx i h) t (some-first X Y gx gy p i h .1))
 
 module _ (X Y : List Block) (gx : All Sound X) (gy : All Sound Y) where
   exact-table : (t : List (List ℕ)) → Told (slotAt X) (slotAt Y) (total X) (total Y) (cellOf t) → Narrows (Pairs Same (length X)) (X ++ Y) (fromTable X Y t)
@@ -95,10 +80,10 @@ module _ (X Y : List Block) (gx : All Sound X) (gy : All Sound Y) where
     where
       go : (v : Bool) → eqb (cellOf t 0 0) 0 ≡ v
           → Narrows (Pairs Same (length X)) (X ++ Y) (outcome v (blocksOf (cellOf t) (slotAt Y) (total Y) 0 X ++ blocksOf (λ i j. cellOf t j i) (slotAt X) (total X) 0 Y))
-      go true e = to-none (equal-none X Y gx gy (λ p. let z = eqb-true (cellOf t 0 0) 0 e in let l = k .live 0 0 (omega arith) (omega arith) p in omega arith))
+      go true e = to-none (equal-none X Y gx gy (λ p. let z = eqb-true (cellOf t 0 0) 0 e in let l = tells-ltb 0 (cellOf t 0 0) .so (tells-so (k .live 0 0 (omega arith) (omega arith)) p) in omega arith))
       go false e =
           let z = eqb-false (cellOf t 0 0) 0 e in
-          let p = k .ends 0 0 (omega arith) (omega arith) (omega arith) in
+          let p = k .live 0 0 (omega arith) (omega arith) .so (tells-so (tells-ltb 0 (cellOf t 0 0)) (omega arith)) in
           to-shapes (equal-hull X Y gx gy (blocksOf (cellOf t) (slotAt Y) (total Y) 0 X) (blocksOf (λ i j. cellOf t j i) (slotAt X) (total X) 0 Y) p (blocks-size (cellOf t) (slotAt Y) (total Y) 0 X) (blocks-size (λ i j. cellOf t j i) (slotAt X) (total X) 0 Y)
           (side X Y gx gy k p) (side Y X gy gx (turn-told k) (turn-path p)))
 

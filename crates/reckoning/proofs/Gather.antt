@@ -1,97 +1,169 @@
--- The blocks that the function makes are those that its table tells of. Assumes nothing.
-use mathlib.Core.Path.{_≡_, refl, sym, ap, subst}
-use mathlib.Core.Bool.{Bool, true, false, true≢false, false≢true}
+-- The blocks that the function makes of a table are those of the pairs of fillings with one text. Assumes nothing.
+use mathlib.Core.Path.{_≡_, refl, ap, subst}
+use mathlib.Core.Bool.{Bool, true, false, false≢true}
 use mathlib.Core.List.{List, [], _∷_}
-use Prim.Native.Nat.{ℕ, zero, suc, _+_, _-_, _≤_, _<_}
+use mathlib.Core.Logic.{_⊎_, inl, inr, ⊎-elim}
+use Prim.Native.Nat.{ℕ, zero, suc, _+_, _≤_, _<_}
 use native.Mathlib.Omega.{arith}
+use lib.Bits.{bitAnd}
+use lib.Dec.{eqb, ltb}
 use lib.ListN.{length, getD, take}
-use Rattle.bases.specs.Base.{Meets}
+use Rattle.bases.specs.Base.{Holds, Meets}
 use Rattle.bases.specs.Tells.{Tells}
+use Rattle.bases.proofs.Plain.{lt-or-le}
+use Rattle.sets.specs.Set.{Exactly}
+use Rattle.sets.proofs.Exact.{exactly-as, none-exactly, both-exactly, either-exactly}
 use Rattle.shapes.specs.Shape.{Block, total, noBlock}
-use Rattle.gathering.specs.Side.{Joint, Others, Within, Added}
-use Rattle.lengths.specs.Length.{EmptyRun, LastAt, Length, empty, filled, Shortest, Longest, Gathered}
-use Rattle.gathering.proofs.Side.{others-none, others-more, others-to, within-none, within-more, within-to}
-use Rattle.lengths.proofs.Length.{gathered, NoneBelow, none-below, none-below-more, shortest-here, shortest-last, NoneAbove, none-above, none-above-more, longest-here, longest-last}
-use Rattle.reckoning.specs.Equal.{and, meet, joins, add, othersAt, othersWithin, some, hasLength, firstFrom, lastTo, blockOf, blocksOf}
-use Rattle.reckoning.proofs.Tests.{tells-map, tells-and, tells-eqb, tells-ltb, tells-leb, tells-meet, tells-some, if-cases}
+use Rattle.rests.specs.Walk.{here, both, Path, move}
+use Rattle.rests.specs.Collect.{Passes, Ends, empty, filled, Collected}
+use Rattle.rests.proofs.Walks.{path-of, path-append, path-from, turn-path}
+use Rattle.rests.proofs.Laid.{to-end}
+use Rattle.rests.proofs.Cut.{Place}
+use Rattle.reckoning.specs.Equal.{joins, add, othersAt, othersWithin, hasLength, firstFrom, lastTo, blockOf, blocksOf}
+use Rattle.reckoning.proofs.Tests.{tells-map, tells-and, tells-so, tells-eqb, tells-leb, tells-meet, Under, under-to, under-of, tells-some, if-cases}
 
-added : (t : Bool) (a b : ℕ) → Added t a b (add t a b)
+-- T says of each pair of positions whether one text leads both to their ends, and whether one leads there from both starts as well.
+pub record Told (X Y : ℕ → Block) (U W : ℕ) (T : ℕ → ℕ → ℕ) : Type 0 where
+  pub live : (i j : ℕ) → i ≤ U → j ≤ W → Tells (ltb 0 (T i j)) (Path X Y U W i j)
+  pub marked : (i j : ℕ) → i ≤ U → j ≤ W → Tells (eqb (T i j) 2) (Path X Y U W i j × Path X Y i j 0 0)
+
+-- the shapes in the other order
+pub turn-told : {X Y : ℕ → Block} {U W : ℕ} {T : ℕ → ℕ → ℕ} → Told X Y U W T → Told Y X W U (λ i j. T j i)
+turn-told t = record {
+  live = λ i j h g. tells-map turn-path turn-path (t .live j i g h);
+  marked = λ i j h g. tells-map (λ x. (turn-path (x .0), turn-path (x .1))) (λ x. (turn-path (x .0), turn-path (x .1))) (t .marked j i g h);
+}
+
+-- ---- a search up to n, where f tells of which numbers P holds, and w is one
+
+module _ (f : ℕ → Bool) (P : ℕ → Type 0) {n w : ℕ} (says : (k : ℕ) → k ≤ n → Tells (f k) (P k)) (most : (k : ℕ) → P k → k ≤ n) (found : P w) where
+  first-says : (t i : ℕ) → t + i ≡ n → ((k : ℕ) → P k → i ≤ k) → P (firstFrom f t i) × ((k : ℕ) → P k → firstFrom f t i ≤ k)
+  unfolding firstFrom
+  first-says zero i e g = let a = most w found in let b = g w found in (subst P (let z : w ≡ i = omega arith in z) found, g)
+  first-says (suc t) i e g = if-cases (λ (v : ℕ). P v × ((k : ℕ) → P k → v ≤ k)) i (firstFrom f t (i + 1)) (says i (omega arith)) (λ p. (p, g))
+      (λ none. first-says t (i + 1) (omega arith)
+      (λ k p. let b = g k p in ⊎-elim (λ l. omega arith) (λ l. absurd (none (subst P (let z : k ≡ i = omega arith in z) p))) (lt-or-le i k)))
+
+  last-says : (i : ℕ) → i ≤ n → ((k : ℕ) → P k → k ≤ i) → P (lastTo f i) × ((k : ℕ) → P k → k ≤ lastTo f i)
+  unfolding lastTo
+  last-says zero h g = let b = g w found in (subst P (let z : w ≡ 0 = omega arith in z) found, g)
+  last-says (suc i) h g = if-cases (λ (v : ℕ). P v × ((k : ℕ) → P k → k ≤ v)) (suc i) (lastTo f i) (says (suc i) h) (λ p. (p, g))
+      (λ none. last-says i (omega arith)
+      (λ k p. let b = g k p in ⊎-elim (λ l. absurd (none (subst P (let z : k ≡ suc i = omega arith in z) p))) (λ l. l) (lt-or-le i k)))
+
+-- ---- the characters that the table shows
+
+-- the characters of one more position
+more-exactly : (P : ℕ → ℕ → Type 0) (n : ℕ) {a r : ℕ} → Exactly r (λ c. Holds a c ⊎ P n c) → Exactly a (λ c. Under (λ j. P j c) n) → Exactly r (λ c. Under (λ j. P j c) (suc n))
+more-exactly P n x y = exactly-as
+    (λ c u. under-to (λ j. P j c) (⊎-elim (λ h. inr (y .so c h)) (λ h. inl h) u))
+    (λ c u. ⊎-elim (λ h. inr h) (λ h. inl (y .mark c h)) (under-of (λ j. P j c) u))
+    x
+
+-- a, and b where v
+add-exactly : (v : Bool) (a b : ℕ) → Exactly (add v a b) (λ c. Holds a c ⊎ ((v ≡ true) × Holds b c))
 unfolding add
-added true a b = record { taken = λ e. refl; left = λ e. absurd (true≢false e) }
-added false a b = record { taken = λ e. absurd (false≢true e); left = λ e. refl }
+add-exactly true a b = exactly-as (λ c. ⊎-elim (λ h. inl h) (λ h. inr (refl, h))) (λ c. ⊎-elim (λ h. inl h) (λ h. inr (h .1))) (either-exactly a b refl)
+add-exactly false a b = record { so = λ c h. inl h; mark = λ c. ⊎-elim (λ h. h) (λ h. absurd (false≢true (h .0))) }
 
 module _ (T : ℕ → ℕ → ℕ) (Y : ℕ → Block) where
-  joins-says : (i j e d : ℕ) → Tells (joins T i j e d) (Joint T i j e d)
+  -- the other shape can take c at j where this is at i
+  Shown : ℕ → ℕ → ℕ → Type 0
+  Shown i j c = (joins T i j (i + 1) (j + 1) ≡ true) × Holds (Y j .base) c
+
+  others-say : (i n : ℕ) → Exactly (othersAt T Y i n) (λ c. Under (λ j. Shown i j c) n)
+  unfolding othersAt Shown
+  others-say i zero = none-exactly refl (λ c x. let l = x .1 in omega arith)
+  others-say i (suc n) = more-exactly (Shown i) n (add-exactly _ _ _) (others-say i n)
+
+  within-say : (m p k : ℕ) → Exactly (othersWithin T Y m p k) (λ c. Under (λ i. Under (λ j. Shown (p + i) j c) m) k)
+  unfolding othersWithin
+  within-say m p zero = none-exactly refl (λ c x. let l = x .1 in omega arith)
+  within-say m p (suc k) = let o = others-say (p + k) m in more-exactly (λ i c. Under (λ j. Shown (p + i) j c) m) k
+      (exactly-as (λ c. ⊎-elim (λ h. inl h) (λ h. inr (o .so c h))) (λ c. ⊎-elim (λ h. inl h) (λ h. inr (o .mark c h))) (either-exactly _ _ refl))
+      (within-say m p k)
+
+-- ---- one block
+
+module _ {X Y : ℕ → Block} {U W p : ℕ} {b : Block} {T : ℕ → ℕ → ℕ} (at : Place X Y U W p b) (t : Told X Y U W T) where
+  -- the starts lead to i and j, and these to the ends, as e and d do
+  abbrev Joint : ℕ → ℕ → ℕ → ℕ → Type 0
+  Joint i j e d = (Path X Y U W i j × Path X Y i j 0 0) × Path X Y U W e d
+
+  joins-says : {i j e d : ℕ} → i ≤ U → j ≤ W → e ≤ U → d ≤ W → Tells (joins T i j e d) (Joint i j e d)
   unfolding joins
-  joins-says i j e d = tells-and _ (tells-eqb (T i j) 2) (λ z. tells-ltb 0 (T e d))
+  joins-says h g k l = tells-and _ (t .marked _ _ h g) (λ z. t .live _ _ k l)
 
-  others-says : (i n : ℕ) → Others T Y n i (othersAt T Y i n)
-  unfolding othersAt
-  others-says i zero = others-none i 0 refl
-  others-says i (suc n) = others-to (let e : n + 1 ≡ suc n = omega arith in e) (others-more {b = Y n} refl (joins-says i n (i + 1) (n + 1)) (added _ _ _) (others-says i n))
+  -- both take a character within the block
+  by-both : {k j : ℕ} → k < b .upper → Meets (b .base) (Y j .base) → Path X Y U W (p + k + 1) (j + 1) → Path X Y U W (p + k) j
+  by-both {k} {j} h m q = let own : Meets (X (p + k) .base) (Y j .base) = rw (at .has .slot k h) m in move (both own refl refl) q
 
-  module _ (m p : ℕ) where
-    within-says : (k : ℕ) → Within T Y m p k (othersWithin T Y m p k)
-    unfolding othersWithin
-    within-says zero = within-none 0 refl
-    within-says (suc k) = within-to (let e : k + 1 ≡ suc k = omega arith in e) (within-more refl (within-says k) (others-says (p + k) m))
+  -- from where enough is taken the block's end is reached with nothing more read
+  by-end : {k i j : ℕ} → i ≡ p + k → b .lower ≤ k → k ≤ b .upper → Path X Y U W (p + b .upper) j → Path X Y U W i j
+  by-end e l h q = path-from e refl (path-append (path-of (to-end (at .has) _ l h) (here refl)) q)
 
-    module _ (b : Block) where
-      empty-says : Tells (some (λ j. joins T p j (p + b .upper) j) (suc m)) (EmptyRun T m p (p + b .upper))
-      empty-says = tells-map
-          (λ x. let l = x .1 in record { other = x .0; bound = omega arith; joint = x .2 })
-          (λ r. let l = r .bound in (r .other, omega arith, r .joint))
-          (tells-some _ (λ j. Joint T p j (p + b .upper) j) (suc m) (λ j l. joins-says p j (p + b .upper) j))
+  passes-say : Exactly (bitAnd (b .base) (othersWithin T Y W p (b .upper))) (Passes X Y U W p b)
+  unfolding Shown
+  passes-say = exactly-as passes shown (both-exactly _ _ refl)
+    where
+      shows : {i j : ℕ} → i < b .upper → j < W → Tells (joins T (p + i) j (p + i + 1) (j + 1)) (Joint (p + i) j (p + i + 1) (j + 1))
+      shows h g = let fits = at .fits in joins-says (omega arith) (omega arith) (omega arith) (omega arith)
 
-      last-says : (k : ℕ) → Tells (some (λ j. and (joins T (p + k) j (p + b .upper) (j + 1)) (meet (b .base) (Y j .base))) m) (LastAt T Y m (p + k) (p + b .upper) (b .base))
-      last-says k = tells-map
-          (λ x. record { other = x .0; bound = x .1; meets = x .2 .1; joint = x .2 .0 })
-          (λ r. (r .other, r .bound, (r .joint, r .meets)))
-          (tells-some _ (λ j. Joint T (p + k) j (p + b .upper) (j + 1) × Meets (b .base) (Y j .base)) m
-          (λ j l. tells-and _ (joins-says (p + k) j (p + b .upper) (j + 1)) (λ z. tells-meet (b .base) (Y j .base))))
+      passes : (c : ℕ) → Holds (b .base) c × Holds (othersWithin T Y W p (b .upper)) c → Passes X Y U W p b c
+      passes c h =
+          let x = within-say T Y W p (b .upper) .so c (h .1) in
+          let y = x .2 in
+          let q = shows (x .1) (y .1) .so (y .2 .0) in
+          record { before = x .0; other = y .0; room = x .1; bound = y .1; reached = q .0 .1; own = h .0; others = y .2 .1; after = q .1 }
 
-      length-says : (n : ℕ) → n ≤ b .upper → Tells (hasLength T Y m p b n) (Length T Y m p b n)
-      unfolding hasLength
-      length-says zero h = tells-map
-          (λ x. empty refl (x .0) (x .1))
-          (elim [ empty e l r ↦ (l, r) | filled k e g l r ↦ absurd (omega arith) ])
-          (tells-and _ (tells-eqb (b .lower) 0) (λ e. empty-says))
-      length-says (suc k) h = tells-map
-          (λ x. filled k (omega arith) (omega arith) (x .0) (x .1))
-          (split k)
-          (tells-and _ (tells-leb (b .lower) (suc k)) (λ e. last-says k))
-        where
-          split : (k : ℕ) → Length T Y m p b (suc k) → (b .lower ≤ suc k) × LastAt T Y m (p + k) (p + b .upper) (b .base)
-          split k (empty e l r) = absurd (omega arith)
-          split k (filled i e g l r) = (l, subst (λ (z : ℕ). LastAt T Y m (p + z) (p + b .upper) (b .base)) (let z : i ≡ k = omega arith in z) r)
+      shown : (c : ℕ) → Passes X Y U W p b c → Holds (b .base) c × Holds (othersWithin T Y W p (b .upper)) c
+      shown c s =
+          let q = tells-so (shows (s .room) (s .bound)) ((by-both (s .room) (record { shared = c; first = s .own; second = s .others }) (s .after), s .reached), s .after) in
+          (s .own, within-say T Y W p (b .upper) .mark c (s .before, s .room, (s .other, s .bound, (q, s .others))))
 
-      first-says : (t n : ℕ) → t + n ≡ b .upper → NoneBelow T Y m p b n → Shortest T Y m p b (firstFrom (hasLength T Y m p b) t n)
-      unfolding firstFrom
-      first-says zero n e f = let same : n ≡ b .upper = omega arith in subst (Shortest T Y m p b) (sym same) (shortest-last same f)
-      first-says (suc t) n e f = if-cases (Shortest T Y m p b) n (firstFrom (hasLength T Y m p b) t (n + 1)) (length-says n (omega arith))
-          (shortest-here f) (λ none. first-says t (n + 1) (omega arith) (none-below-more f none))
+  length-says : (n : ℕ) → n ≤ b .upper → Tells (hasLength T Y W p b n) (Ends X Y U W p b n)
+  unfolding hasLength
+  length-says zero h = let fits = at .fits in tells-map
+      (λ x. let s = x .1 in let l = s .1 in empty (s .0) (omega arith) (x .0) refl (s .2 .0 .1) (s .2 .1))
+      (elim [
+        | empty j l low e pre post ↦ (low, (j, omega arith, ((by-end {k = 0} (omega arith) (omega arith) h post, pre), post)))
+        | filled k j l e room low pre m post ↦ absurd (omega arith)
+      ])
+      (tells-and _ (tells-eqb (b .lower) 0) (λ e. tells-some _ (λ j. Joint p j (p + b .upper) j) (suc W) (λ j l. joins-says (omega arith) (omega arith) fits (omega arith))))
+  length-says (suc k) h = let fits = at .fits in tells-map
+      (λ x. let s = x .1 in filled k (s .0) (s .1) (omega arith) (omega arith) (x .0) (s .2 .0 .0 .1) (s .2 .1) (s .2 .0 .1))
+      (split k h)
+      (tells-and _ (tells-leb (b .lower) (suc k)) (λ e. tells-some _ (λ j. Joint (p + k) j (p + b .upper) (j + 1) × Meets (b .base) (Y j .base)) W
+      (λ j l. tells-and _ (joins-says (omega arith) (omega arith) fits (omega arith)) (λ z. tells-meet (b .base) (Y j .base)))))
+    where
+      split : (k : ℕ) → suc k ≤ b .upper → Ends X Y U W p b (suc k) → (b .lower ≤ suc k) × Under (λ j. Joint (p + k) j (p + b .upper) (j + 1) × Meets (b .base) (Y j .base)) W
+      split k h (empty j l low e pre post) = absurd (omega arith)
+      split k h (filled i j l e room low pre m post) =
+          let q = by-both room m (by-end {k = suc k} (omega arith) low h post) in
+          let z : i ≡ k = omega arith in
+          (low, (j, l, (((subst (λ (v : ℕ). Path X Y U W (p + v) j) z q, subst (λ (v : ℕ). Path X Y (p + v) j 0 0) z pre), post), m)))
 
-      last-to-says : (n : ℕ) → n ≤ b .upper → NoneAbove T Y m p b n → Longest T Y m p b (lastTo (hasLength T Y m p b) n)
-      unfolding lastTo
-      last-to-says zero h f = longest-last refl f
-      last-to-says (suc n) h f = if-cases (Longest T Y m p b) (suc n) (lastTo (hasLength T Y m p b) n) (length-says (suc n) h)
-          (longest-here f) (λ none. last-to-says n (omega arith) (above-less (none-above-more (omega arith) f none)))
-        where
-          above-less : NoneAbove T Y m p b (suc n - 1) → NoneAbove T Y m p b n
-          above-less g = subst (NoneAbove T Y m p b) (let z : suc n - 1 ≡ n = omega arith in z) g
+  pub block-says : {n : ℕ} → Ends X Y U W p b n → Collected X Y U W p b (blockOf T Y W p b)
+  unfolding blockOf
+  block-says some =
+      let s = first-says (hasLength T Y W p b) (Ends X Y U W p b) length-says short some (b .upper) 0 (omega arith) (λ k e. omega arith) in
+      let l = last-says (hasLength T Y W p b) (Ends X Y U W p b) length-says short some (b .upper) (omega arith) short in
+      record { held = passes-say .so; all-held = passes-say .mark; shortest = s .0; not-shorter = s .1; longest = l .0; not-longer = l .1 }
+    where
+      short : (k : ℕ) → Ends X Y U W p b k → k ≤ b .upper
+      short k (empty j l low e pre post) = omega arith
+      short k (filled i j l e room low pre m post) = omega arith
 
-      pub block-says : Gathered T Y m p b (blockOf T Y m p b)
-      unfolding blockOf
-      block-says = gathered refl (within-says (b .upper)) (first-says (b .upper) 0 (omega arith) none-below) (last-to-says (b .upper) (omega arith) (none-above refl))
+-- ---- all blocks
 
-  pub blocks-size : (m p : ℕ) (s : List Block) → length (blocksOf T Y m p s) ≡ length s
+module _ (T : ℕ → ℕ → ℕ) (Y : ℕ → Block) (m : ℕ) where
+  pub blocks-size : (p : ℕ) (s : List Block) → length (blocksOf T Y m p s) ≡ length s
   unfolding blocksOf
-  blocks-size m p [] = refl
-  blocks-size m p (b ∷ s) = ap suc (blocks-size m (p + b .upper) s)
+  blocks-size p [] = refl
+  blocks-size p (b ∷ s) = ap suc (blocks-size (p + b .upper) s)
 
-  pub blocks-say : (m p : ℕ) (s : List Block) (i : ℕ) → i < length s → Gathered T Y m (p + total (take i s)) (getD s i noBlock) (getD (blocksOf T Y m p s) i noBlock)
+  pub blocks-at : (p q : ℕ) (s : List Block) (i : ℕ) → i < length s → q ≡ p + total (take i s) → getD (blocksOf T Y m p s) i noBlock ≡ blockOf T Y m q (getD s i noBlock)
   unfolding blocksOf total
-  blocks-say m p [] i h = absurd (omega arith)
-  blocks-say m p (b ∷ s) zero h = subst (λ (z : ℕ). Gathered T Y m z b (blockOf T Y m p b)) (let e : p ≡ p + 0 = omega arith in e) (block-says m p b)
-  blocks-say m p (b ∷ s) (suc i) h = subst (λ (z : ℕ). Gathered T Y m z (getD s i noBlock) (getD (blocksOf T Y m (p + b .upper) s) i noBlock))
-      (let e : p + b .upper + total (take i s) ≡ p + (b .upper + total (take i s)) = omega arith in e) (blocks-say m (p + b .upper) s i (omega arith))
+  blocks-at p q [] i h e = absurd (omega arith)
+  blocks-at p q (b ∷ s) zero h e = ap (λ (z : ℕ). blockOf T Y m z b) (let z : p ≡ q = omega arith in z)
+  blocks-at p q (b ∷ s) (suc i) h e = blocks-at (p + b .upper) q s i (omega arith) (omega arith)

@@ -13,37 +13,28 @@ use Rattle.shapes.specs.Shape.{Block}
 use Rattle.rests.specs.Walk.{Move, first, second, both, Path, stay, move, Bounded}
 use Rattle.rests.proofs.Walks.{below, path-then, text-of, ends-within}
 use Rattle.reckoning.specs.Equal.{at, fromIf, froms, anyIn, reach, cellAfter, firstCells, rowAfter, firstRows}
-use Rattle.reckoning.proofs.Tests.{tells-map, tells-or, tells-and, tells-eqb, tells-ltb, tells-meet}
+use Rattle.reckoning.proofs.Tests.{tells-map, tells-or, tells-and, tells-eqb, tells-ltb, tells-meet, Under, under-to, under-of}
 
 -- ---- the positions from which a run ends at i
 
--- a position before n from which a run can end at i, with P
-EndsAt : (ℕ → Block) → (ℕ → Type 0) → ℕ → ℕ → Type 0
-EndsAt X P i n = (k : ℕ) × (k < n) × ((X k .lower ≡ 0) × (i ≡ k + X k .upper)) × P k
+-- a run can end at i from position k, with P
+EndsBy : (ℕ → Block) → (ℕ → Type 0) → ℕ → ℕ → Type 0
+EndsBy X P i k = ((X k .lower ≡ 0) × (i ≡ k + X k .upper)) × P k
 
 any-if : (X : ℕ → Block) (P : ℕ → Type 0) (f : ℕ → Bool) (i n : ℕ) (l : List ℕ) {t : Bool} → Tells t ((X n .lower ≡ 0) × (i ≡ n + X n .upper))
-    → ((X n .lower ≡ 0) × (i ≡ n + X n .upper) → Tells (f n) (P n)) → Tells (anyIn f l) (EndsAt X P i n) → Tells (anyIn f (fromIf t n l)) (EndsAt X P i (suc n))
-unfolding anyIn fromIf EndsAt
-any-if X P f i n l {t = true} s g u =
-    let e = s .so refl in
-    tells-map
-    (⊎-elim (λ p. (n, omega arith, e, p)) (λ x. let h = x .1 in (x .0, omega arith, x .2, x .3)))
-    (λ x. let h = x .1 in ⊎-elim (λ b. inr (x .0, b, x .2, x .3)) (λ b. inl (subst P (let z : x .0 ≡ n = omega arith in z) (x .3))) (lt-or-le (x .0) n))
-    (tells-or (g e) u)
+    → Tells (f n) (P n) → Tells (anyIn f l) (Under (EndsBy X P i) n) → Tells (anyIn f (fromIf t n l)) (Under (EndsBy X P i) (suc n))
+unfolding anyIn fromIf EndsBy
+any-if X P f i n l {t = true} s g u = tells-map (under-to (EndsBy X P i)) (under-of (EndsBy X P i)) (tells-or (tells-map (λ p. (s .so refl, p)) (λ p. p .1) g) u)
 any-if X P f i n l {t = false} s g u = tells-map
-    (λ x. let h = x .1 in (x .0, omega arith, x .2, x .3))
-    (λ x. let h = x .1 in ⊎-elim (λ b. (x .0, b, x .2, x .3))
-    (λ b. absurd (s .not-so refl (subst (λ (z : ℕ). (X z .lower ≡ 0) × (i ≡ z + X z .upper)) (let z : x .0 ≡ n = omega arith in z) (x .2)))) (lt-or-le (x .0) n))
+    (λ x. under-to (EndsBy X P i) (inr x))
+    (λ x. ⊎-elim (λ z. absurd (s .not-so refl (z .0))) (λ z. z) (under-of (EndsBy X P i) x))
     u
 
-any-froms : (X : ℕ → Block) (P : ℕ → Type 0) (f : ℕ → Bool) (i n : ℕ) → ((k : ℕ) → k < n → Tells (f k) (P k)) → Tells (anyIn f (froms X i n)) (EndsAt X P i n)
-unfolding froms
-any-froms X P f i zero h = none
-  where
-    none : Tells (anyIn f []) (EndsAt X P i 0)
-    none = record { so = λ e. absurd (false≢true (unfold anyIn in e)); not-so = λ e x. unfold EndsAt in (let l = x .1 in omega arith) }
+any-froms : (X : ℕ → Block) (P : ℕ → Type 0) (f : ℕ → Bool) (i n : ℕ) → ((k : ℕ) → k < n → Tells (f k) (P k)) → Tells (anyIn f (froms X i n)) (Under (EndsBy X P i) n)
+unfolding froms anyIn
+any-froms X P f i zero h = record { so = λ e. absurd (false≢true e); not-so = λ e x. let l = x .1 in omega arith }
 any-froms X P f i (suc n) h = any-if X P f i n (froms X i n) (tells-and _ (tells-eqb (X n .lower) 0) (λ z. tells-eqb i (n + X n .upper)))
-    (λ z. h n (omega arith)) (any-froms X P f i n (λ k l. h k (omega arith)))
+    (h n (omega arith)) (any-froms X P f i n (λ k l. h k (omega arith)))
 
 -- ---- the last move of a path
 
@@ -64,29 +55,29 @@ pub record RowsTo (X Y : ℕ → Block) (W i : ℕ) (r : List (List Bool)) : Typ
 module _ {X Y : ℕ → Block} {U W : ℕ} (x : Bounded X U) (y : Bounded Y W) where
   -- the four ways to come to i and j
   Ways : ℕ → ℕ → Type 0
-  Ways i j = ((i ≡ 0) × (j ≡ 0)) ⊎ (EndsAt X (λ a. Path X Y a j 0 0) i i ⊎ (EndsAt Y (λ b. Path X Y i b 0 0) j j
+  Ways i j = ((i ≡ 0) × (j ≡ 0)) ⊎ (Under (EndsBy X (λ a. Path X Y a j 0 0) i) i ⊎ (Under (EndsBy Y (λ b. Path X Y i b 0 0) j) j
       ⊎ ((0 < i) × ((0 < j) × (Meets (X (i - 1) .base) (Y (j - 1) .base) × Path X Y (i - 1) (j - 1) 0 0)))))
 
   to-path : {i j : ℕ} → Ways i j → Path X Y i j 0 0
-  unfolding Ways EndsAt
+  unfolding Ways EndsBy
   to-path (inl e) = stay (sym (e .0)) (sym (e .1))
-  to-path (inr (inl p)) = path-then (p .3) (first (p .2 .0) (p .2 .1) refl)
-  to-path (inr (inr (inl p))) = path-then (p .3) (second (p .2 .0) refl (p .2 .1))
+  to-path (inr (inl p)) = path-then (p .2 .1) (first (p .2 .0 .0) (p .2 .0 .1) refl)
+  to-path (inr (inr (inl p))) = path-then (p .2 .1) (second (p .2 .0 .0) refl (p .2 .0 .1))
   to-path (inr (inr (inr p))) = let i = p .0 in let q = p .1 in let j = q .0 in let t = q .1 in path-then (t .1) (both (t .0) (omega arith) (omega arith))
 
   path-bounds : {a b : ℕ} → Path X Y a b 0 0 → (a ≤ U) × (b ≤ W)
   path-bounds p = let t = text-of p in (ends-within x (omega arith) (t .1), ends-within y (omega arith) (t .2))
 
   by-move : {i j a b : ℕ} → Path X Y a b 0 0 → Move X Y a b i j → Ways i j
-  unfolding Ways EndsAt
+  unfolding Ways EndsBy
   by-move {i} {j} {a} {b} p (first l e f) =
       let s = path-bounds p in
       let room = x .room a (below x a (s .0) l) in
-      inr (inl (a, omega arith, (l, e), subst (λ (z : ℕ). Path X Y a z 0 0) (sym f) p))
+      inr (inl (a, omega arith, ((l, e), subst (λ (z : ℕ). Path X Y a z 0 0) (sym f) p)))
   by-move {i} {j} {a} {b} p (second l e f) =
       let s = path-bounds p in
       let room = y .room b (below y b (s .1) l) in
-      inr (inr (inl (b, omega arith, (l, f), subst (λ (z : ℕ). Path X Y z b 0 0) (sym e) p)))
+      inr (inr (inl (b, omega arith, ((l, f), subst (λ (z : ℕ). Path X Y z b 0 0) (sym e) p))))
   by-move {i} {j} {a} {b} p (both l e f) =
       let ea : a ≡ i - 1 = omega arith in
       let eb : b ≡ j - 1 = omega arith in

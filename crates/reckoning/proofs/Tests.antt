@@ -1,5 +1,5 @@
 -- Tests that tell: joined, of numbers, of bases, and over lists. Assumes nothing.
-use mathlib.Core.Path.{_≡_, refl, ap, _∙_, subst}
+use mathlib.Core.Path.{_≡_, refl, sym, ap, _∙_, subst}
 use mathlib.Core.Bool.{Bool, true, false, true≢false, false≢true}
 use mathlib.Core.Logic.{_⊎_, inl, inr, ⊎-elim}
 use Prim.Native.Nat.{ℕ, zero, suc, _+_, _≤_, _<_}
@@ -28,6 +28,9 @@ module _ {P Q : Type 0} where
   tells-and {a = true} b t f = let p = t .so refl in let u = f p in record { so = λ e. (p, u .so e); not-so = λ e q. u .not-so e (q .1) }
   tells-and {a = false} b t f = record { so = λ e. absurd (false≢true e); not-so = λ e q. t .not-so refl (q .0) }
 
+pub tells-as : {a b : Bool} {P : Type 0} → a ≡ b → Tells b P → Tells a P
+tells-as {P} e t = subst (λ (v : Bool). Tells v P) (sym e) t
+
 pub tells-so : {t : Bool} {P : Type 0} → Tells t P → P → t ≡ true
 tells-so {t = true} s p = refl
 tells-so {t = false} s p = absurd (s .not-so refl p)
@@ -48,14 +51,23 @@ tells-meet a b = record {
   not-so = λ e. meets-not a b (eqb-true (bitAnd a b) 0 (not-false _ e));
 }
 
--- some number below n
-pub tells-some : (f : ℕ → Bool) (P : ℕ → Type 0) (n : ℕ) → ((k : ℕ) → k < n → Tells (f k) (P k)) → Tells (some f n) ((k : ℕ) × (k < n) × P k)
+-- P holds of some number below n
+abbrev pub Under : (ℕ → Type 0) → ℕ → Type 0
+Under P n = (k : ℕ) × (k < n) × P k
+
+-- below n + 1: of n, or of one below n
+module _ (P : ℕ → Type 0) {n : ℕ} where
+  pub under-to : P n ⊎ Under P n → Under P (suc n)
+  under-to (inl p) = (n, omega arith, p)
+  under-to (inr x) = let l = x .1 in (x .0, omega arith, x .2)
+
+  pub under-of : Under P (suc n) → P n ⊎ Under P n
+  under-of x = let l = x .1 in ⊎-elim (λ g. inr (x .0, g, x .2)) (λ g. inl (subst P (let e : x .0 ≡ n = omega arith in e) (x .2))) (lt-or-le (x .0) n)
+
+pub tells-some : (f : ℕ → Bool) (P : ℕ → Type 0) (n : ℕ) → ((k : ℕ) → k < n → Tells (f k) (P k)) → Tells (some f n) (Under P n)
 unfolding some
 tells-some f P zero h = record { so = λ e. absurd (false≢true e); not-so = λ e x. let l = x .1 in omega arith }
-tells-some f P (suc n) h = tells-map
-    (⊎-elim (λ p. (n, omega arith, p)) (λ x. let l = x .1 in (x .0, omega arith, x .2)))
-    (λ x. let l = x .1 in ⊎-elim (λ g. inr (x .0, g, x .2)) (λ g. inl (subst P (let e : x .0 ≡ n = omega arith in e) (x .2))) (lt-or-le (x .0) n))
-    (tells-or (h n (omega arith)) (tells-some f P n (λ k l. h k (omega arith))))
+tells-some f P (suc n) h = tells-map (under-to P) (under-of P) (tells-or (h n (omega arith)) (tells-some f P n (λ k l. h k (omega arith))))
 
 pub if-cases : {P : Type 0} (Q : ℕ → Type 0) (a b : ℕ) {v : Bool} → Tells v P → (P → Q a) → ((P → ⊥) → Q b) → Q (if v a b)
 unfolding if

@@ -1,6 +1,6 @@
 // The report of a book: STABLE with the final shapes, NONE, or REFUSED.
 use answers::Refusal;
-use shapes::Words;
+use shapes::Block;
 ghost use mathlib.Core.List.{[], _∷_, map};
 ghost use Prim.Native.Nat.{_+_, _*_, _/_, _≤_};
 ghost use lib.ListN.{length};
@@ -9,6 +9,7 @@ ghost use Rattle.shapes.specs.All.{All};
 ghost use Rattle.shapes.specs.Lent.{shapeOf, meant};
 ghost use Rattle.numerals.specs.Digits.{decimal};
 ghost use Rattle.book_lines.specs.Book.{RightBlock, headLine, blockLine, joined};
+ghost use Rattle.shapes.specs.Shape.{blockCount};
 ghost use Rattle.reports.specs.Report.{Reported};
 ghost use Rattle.reports.specs.Report.Verdict.{stable, none, refused};
 ghost use Rattle.reports.specs.Put.{Put, spaced, pairEnd};
@@ -52,15 +53,15 @@ fn put_pair(a: u64, b: u64, out: &mut [u8], at: usize) -> usize
 }
 
 // A block's line.
-fn put_block(w: Words, out: &mut [u8], at: usize) -> usize
+fn put_block(b: Block, out: &mut [u8], at: usize) -> usize
     requires { ⌜ at + 45 ≤ length (now out) ⌝ }
-    requires { ⌜ RightBlock (meant w) ⌝ }
-    ensures { λ r. ⌜ Put (now (out .entry)) at (joined (blockLine (meant w) ∷ [])) (now (out .exit)) r ⌝ }
+    requires { ⌜ RightBlock (meant b) ⌝ }
+    ensures { λ r. ⌜ Put (now (out .entry)) at (joined (blockLine (meant b) ∷ [])) (now (out .exit)) r ⌝ }
     ensures { λ r. ⌜ r ≤ at + 45 ⌝ }
 {
-    numerals::put_digits(w.high, 16, 16, out, at);
-    numerals::put_digits(w.low, 16, 16, out, at + 16);
-    put_pair(w.lower, w.upper, out, at + 32)
+    numerals::put_digits(b.base.b, 16, 16, out, at);
+    numerals::put_digits(b.base.a, 16, 16, out, at + 16);
+    put_pair(b.lower, b.upper, out, at + 32)
 }
 
 fn put_counts(counts: &[u64], out: &mut [u8], at: usize) -> usize
@@ -79,17 +80,17 @@ fn put_counts(counts: &[u64], out: &mut [u8], at: usize) -> usize
 }
 
 fn put_blocks(blocks: &[u64], out: &mut [u8], at: usize) -> usize
-    requires { ⌜ at + length (now blocks) / 4 * 45 ≤ length (now out) ⌝ }
+    requires { ⌜ at + blockCount (now blocks) * 45 ≤ length (now out) ⌝ }
     requires { ⌜ All RightBlock (shapeOf (now blocks)) ⌝ }
     ensures { λ r. ⌜ Put (now (out .entry)) at (joined (map blockLine (shapeOf (now (blocks .entry))))) (now (out .exit)) r ⌝ }
-    ensures { λ r. ⌜ r ≤ at + length (now (blocks .entry)) / 4 * 45 ⌝ }
+    ensures { λ r. ⌜ r ≤ at + blockCount (now (blocks .entry)) * 45 ⌝ }
 {
-    let n = blocks.len() / 4;
+    let n = blocks.len() / shapes::SIZE;
     let mut end = at;
     let mut i = 0;
     while i < n {
-        let w = shapes::block_at(blocks, i);
-        end = put_block(w, out, end);
+        let b = shapes::block_at(blocks, i);
+        end = put_block(b, out, end);
         i += 1;
     }
     end
@@ -99,14 +100,14 @@ fn put_blocks(blocks: &[u64], out: &mut [u8], at: usize) -> usize
 pub fn write_stable(counts: &[u64], blocks: &[u64], count: u64, out: &mut [u8]) -> usize
     requires { ⌜ 16384 ≤ length (now out) ⌝ }
     requires { ⌜ length (now counts) ≤ 8 ⌝ }
-    requires { ⌜ length (now blocks) / 4 ≤ 256 ⌝ }
+    requires { ⌜ blockCount (now blocks) ≤ 256 ⌝ }
     requires { ⌜ All RightBlock (shapeOf (now blocks)) ⌝ }
     ensures { λ r. ⌜ Reported (stable (now (counts .entry)) (shapeOf (now (blocks .entry))) count) (now (out .entry)) (now (out .exit)) r ⌝ }
 {
     let a = put_head(b"STABLE ", count, out, 0);
     let b = put_head(b"TEXTS ", counts.len() as u64, out, a);
     let c = put_counts(counts, out, b);
-    let d = put_head(b"BLOCKS ", (blocks.len() / 4) as u64, out, c);
+    let d = put_head(b"BLOCKS ", (blocks.len() / shapes::SIZE) as u64, out, c);
     put_blocks(blocks, out, d)
 }
 

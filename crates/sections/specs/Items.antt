@@ -7,6 +7,7 @@ use Rattle.rules.specs.Rule.{ruleSize, ruleAt}
 use Rattle.shapes.specs.Lent.{blockAt}
 use Rattle.numerals.specs.Digits.{decimal}
 use Rattle.book_lines.specs.Book.{Small, RightBlock, RightRule, textsWord, blocksWord, rulesWord, blockLine, ruleLine}
+use Rattle.shapes.specs.Shape.{blockSize}
 use Rattle.sections.specs.declared.Item.{Item}
 use Rattle.sections.specs.declared.Item.the-variants.{Count, Block, Rule}
 use Rattle.sections.specs.Steps.{State}
@@ -15,13 +16,13 @@ use Rattle.sections.specs.Steps.State.{start, counts, blocks, rules}
 -- how many numbers an item is
 abbrev pub sizeOf : Item → ℕ
 sizeOf Count = 1
-sizeOf Block = 4
+sizeOf Block = blockSize
 sizeOf Rule = ruleSize
 
 -- which numbers are a right one, and the line that says it
 abbrev pub RightItem : Item → List ℕ → Type 0
 RightItem Count xs = (length xs ≡ 1) × Small (getD xs 0 0)
-RightItem Block xs = (length xs ≡ 4) × RightBlock (blockAt xs 0)
+RightItem Block xs = (length xs ≡ blockSize) × RightBlock (blockAt xs 0)
 RightItem Rule xs = (length xs ≡ ruleSize) × RightRule (ruleAt xs 0)
 
 abbrev pub lineOf : Item → List ℕ → List ℕ

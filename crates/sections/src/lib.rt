@@ -48,7 +48,7 @@ fn size(item: Item) -> usize
 {
     match item {
         Item::Count => 1,
-        Item::Block => 4,
+        Item::Block => shapes::SIZE,
         Item::Rule => rules::SIZE,
     }
 }

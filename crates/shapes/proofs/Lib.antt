@@ -5,3 +5,4 @@ pub mod Lent
 pub mod Refused
 pub mod Fits
 pub mod Numbers
+pub mod Put

@@ -7,10 +7,11 @@ use Rattle.answers.specs.Told.{Told, tell, told}
 use Rattle.answers.specs.declared.Checked.{Checked}
 use Rattle.answers.specs.declared.Checked.the-variants.{Sound as is-sound, Refused}
 use Rattle.bases.specs.Base.{baseOf}
+use Rattle.sets.specs.Set.{setOf}
 use Rattle.shapes.specs.All.{All}
-use Rattle.shapes.specs.declared.Words.{Words}
+use Rattle.shapes.specs.declared.Block.{Block as Carried}
 use Rattle.shapes.specs.FirstBad.{FirstBad}
-use Rattle.shapes.specs.Shape.{Block, Sound, noBlock, total}
+use Rattle.shapes.specs.Shape.{Block, Sound, noBlock, total, blockCount, blockSize}
 
 -- Lent numbers are 64-bit numbers.
 abbrev pub Numbers : List ℕ → Type 0
@@ -20,13 +21,19 @@ Numbers xs = All (λ (x : ℕ). x < 2 ^ 64) xs
 abbrev pub blockOf : ℕ → ℕ → ℕ → ℕ → Block
 blockOf low high lower upper = record { base = baseOf (low ∷ (high ∷ [])); lower = lower; upper = upper }
 
--- The numbers of a block as the code carries them, and the block they mean.
-abbrev pub meant : Words → Block
-meant w = blockOf (w .low) (w .high) (w .lower) (w .upper)
+-- The block that one in the code means.
+abbrev pub meant : Carried → Block
+meant b = record { base = setOf (b .base); lower = b .lower; upper = b .upper }
 
 -- Block i, from 0, of lent numbers.
 abbrev pub blockAt : List ℕ → ℕ → Block
-blockAt xs i = blockOf (getD xs (i * 4) 0) (getD xs (i * 4 + 1) 0) (getD xs (i * 4 + 2) 0) (getD xs (i * 4 + 3) 0)
+blockAt xs i = blockOf (getD xs (i * blockSize) 0) (getD xs (i * blockSize + 1) 0) (getD xs (i * blockSize + 2) 0) (getD xs (i * blockSize + 3) 0)
+
+-- Block i is set to b, and nothing else is changed.
+pub record Put (w : List ℕ) (i : ℕ) (b : Block) (w′ : List ℕ) : Type 0 where
+  pub long : length w′ ≡ length w
+  pub here : blockAt w′ i ≡ b
+  pub kept : (k : ℕ) → (k / 4 ≡ i → ⊥) → getD w′ k 0 ≡ getD w k 0
 
 -- A shape is its blocks, one after the other.
 unfoldable pub shapeOf : List ℕ → List Block
@@ -43,9 +50,9 @@ wordsOf (b ∷ s) = b .base % 2 ^ 64 ∷ (b .base / 2 ^ 64 ∷ (b .lower ∷ (b 
 
 -- The length is right: a multiple of 4, some blocks, not over 32.
 pub record RightLength (xs : List ℕ) : Type 0 where
-  pub whole : length xs % 4 ≡ 0
-  pub some : 1 ≤ length xs / 4
-  pub few : length xs / 4 ≤ 32
+  pub whole : length xs % blockSize ≡ 0
+  pub some : 1 ≤ blockCount xs
+  pub few : blockCount xs ≤ 32
 
 -- Block number i, from 1, is the first that is not sound.
 abbrev pub FirstUnsound : List Block → ℕ → Type 0
@@ -64,6 +71,12 @@ pub data ShapeRefused (n : ℕ) (xs : List ℕ) (t : Told) : Type 0 where
 -- Otherwise the numbers are accepted as a shape.
 pub record Accepted (xs : List ℕ) : Type 0 where
   pub right : RightLength xs
+  pub sound : All Sound (shapeOf xs)
+  pub short : total (shapeOf xs) ≤ 250
+
+-- Numbers that are a shape of any number of blocks, whose uppers add to at most 250.
+pub record Whole (xs : List ℕ) : Type 0 where
+  pub blocks : length xs % blockSize ≡ 0
   pub sound : All Sound (shapeOf xs)
   pub short : total (shapeOf xs) ≤ 250
 

@@ -1,9 +1,9 @@
 -- Document 01, "Shapes and fillings", in the papers' terms (000 and 003: dashed strings, gamma).
 use mathlib.Core.Path.{_≡_}
 use mathlib.Core.List.{List, [], _∷_, _++_}
-use Prim.Native.Nat.{ℕ, _+_, _^_, _≤_, _<_}
+use Prim.Native.Nat.{ℕ, _+_, _/_, _^_, _≤_, _<_}
 use lib.ListN.{length}
-use Rattle.bases.specs.Base.{Holds, Empty}
+use Rattle.bases.specs.Base.{Holds, Empty, codes}
 use Rattle.shapes.specs.All.{All}
 
 -- A character is its code, a text a list of characters, a shape a list of blocks.
@@ -24,9 +24,16 @@ pub record Sound (b : Block) : Type 0 where
   pub filled : Empty (b .base) → b .upper ≡ 0
   pub bare : b .upper ≡ 0 → Empty (b .base)
 
--- Its base has characters below 128 only: so has every base of two words.
+-- Its base has only characters that there are.
 abbrev pub Small : Block → Type 0
-Small b = b .base < 2 ^ 128
+Small b = b .base < 2 ^ codes
+
+-- A block is so many lent numbers: the words of its base, lower and upper. So many blocks are some numbers.
+abbrev pub blockSize : ℕ
+blockSize = 4
+
+abbrev pub blockCount : List ℕ → ℕ
+blockCount xs = length xs / blockSize
 
 -- The uppers of a shape, added.
 unfoldable pub total : List Block → ℕ

@@ -28,39 +28,39 @@ enum-told : tie.Need-enum-told
 enum-told c = search needs
 
 -- in the arm of an accepted book
-accepted : (c : tie.After-enum-told) → BookAccepted (c .before .before .before .before .before .before .before .before .args .counts .now) (c .before .before .before .before .before .before .before .before .args .blocks .now) (c .before .before .before .before .before .before .before .before .args .rules .now) (length (c .before .before .before .before .before .before .before .before .args .work .now))
+accepted : (c : tie.After-enum-told) → let a = c .before .before .before .before .before .before .before .before .args in BookAccepted (a .counts .now) (a .blocks .now) (a .rules .now) (length (a .work .now))
 accepted c = subst (BookChecked _ _ _ _) (c .enum-told .given .1) (c .before .before .check-book .ensures)
 
 -- its blocks have room in the copy
 room : (c : tie.After-enum-told) → length (c .before .before .before .before .before .before .before .before .args .blocks .now) ≤ 1024
 room c = let a = accepted c in let e = a .counted .whole-blocks in let h = few-blocks _ (a .counted .each) (a .counted .few-texts) in omega arith
 
+clear-requires : tie.Need-clear-requires
+clear-requires c κs = accepted (c .before) .room
+
 slice-aggregate-lay : tie.Need-slice-aggregate-lay
 slice-aggregate-lay c = search needs
 
 lay-requires : tie.Need-lay-requires
-lay-requires c κs = let h = room (c .before .before) in omega arith
+lay-requires c κs = let h = room (c .before .before .before .before .before .before) in omega arith
 
 array-borrow-prefix-numbers : tie.Need-array-borrow-prefix-numbers
-array-borrow-prefix-numbers c = let h = room (c .before .before .before .before) in let e = c .before .lay .kept .0 in omega arith
+array-borrow-prefix-numbers c = let h = room (c .before .before .before .before .before .before .before .before) in let e = c .before .lay .kept .0 in omega arith
 
 -- the copy's front is the blocks
-front : (c : tie.After-lay) → take (length (c .before .before .before .before .before .before .before .before .before .before .before .args .blocks .now)) (c .lay .last .0) ≡ c .before .before .before .before .before .before .before .before .before .before .before .args .blocks .now
-front c = ap (take (length (c .before .before .before .before .before .before .before .before .before .before .before .args .blocks .now))) (c .lay .ensures) ∙ front-back (c .before .before .before .before .before .before .before .before .before .before .before .args .blocks .now) _
+front : (c : tie.After-lay) → take (length (c .before .before .before .before .before .before .before .before .before .before .before .before .before .before .before .args .blocks .now)) (c .lay .last .0) ≡ c .before .before .before .before .before .before .before .before .before .before .before .before .before .before .before .args .blocks .now
+front c = ap (take (length (c .before .before .before .before .before .before .before .before .before .before .before .before .before .before .before .args .blocks .now))) (c .lay .ensures) ∙ front-back (c .before .before .before .before .before .before .before .before .before .before .before .before .before .before .before .args .blocks .now) _
 
 slice-aggregate-run-rounds : tie.Need-slice-aggregate-run-rounds
 slice-aggregate-run-rounds c = sym (ap length (front (c .before .before)))
 
 run-rounds-requires : tie.Need-run-rounds-requires
 run-rounds-requires c κs =
-    let a = accepted (c .before .before .before .before .before .before) in
+    let a = accepted (c .before .before .before .before .before .before .before .before .before) in
     record {
-      each = a .counted .each;
-      few-texts = a .counted .few-texts;
+      texts = record { each = a .counted .each; few = a .counted .few-texts; standing = subst (Standing _) (sym (front (c .before .before))) (standing-first a) };
       few-rules = a .counted .few-rules;
       right = a .right;
-      standing = subst (Standing _) (sym (front (c .before .before .before))) (standing-first a);
-      room = a .room;
     }
 
 enum-known-m : tie.Need-enum-known-m
@@ -70,22 +70,23 @@ enum-known-m-2 : tie.Need-enum-known-m-2
 enum-known-m-2 c = search needs
 
 -- the numbers left are as many as the blocks
-size : (c : tie.After-run-rounds) → length (c .run-rounds .last .1 .0) ≡ length (c .before .before .before .before .before .before .before .before .before .before .before .before .before .before .before .args .blocks .now)
-size c = c .run-rounds .kept .1 .0 ∙ ap length (front (c .before .before .before .before))
+size : (c : tie.After-run-rounds) → length (c .run-rounds .last .1 .0) ≡ length (c .before .before .before .before .before .before .before .before .before .before .before .before .before .before .before .before .before .before .args .blocks .now)
+size c = c .run-rounds .kept .1 .0 ∙ ap length (front (c .before .before .before))
 
 array-share-prefix-numbers : tie.Need-array-share-prefix-numbers
-array-share-prefix-numbers c = let h = size (c .before .before .before .before .before .before .before) in simp length-append (omega arith)
+array-share-prefix-numbers c = let h = size (c .before .before .before .before .before) in simp length-append (omega arith)
 
-back : (c : tie.After-run-rounds) (l : List ℕ) → take (length (c .before .before .before .before .before .before .before .before .before .before .before .before .before .before .before .args .blocks .now)) (c .run-rounds .last .1 .0 ++ l) ≡ c .run-rounds .last .1 .0
+back : (c : tie.After-run-rounds) (l : List ℕ) → take (length (c .before .before .before .before .before .before .before .before .before .before .before .before .before .before .before .before .before .before .args .blocks .now)) (c .run-rounds .last .1 .0 ++ l) ≡ c .run-rounds .last .1 .0
 back c l = take-at (c .run-rounds .last .1 .0) l _ (size c)
 
 slice-aggregate-lay-2 : tie.Need-slice-aggregate-lay-2
-slice-aggregate-lay-2 c = sym (ap length (back (c .before .before .before .before .before .before .before .before) _) ∙ size (c .before .before .before .before .before .before .before .before))
+slice-aggregate-lay-2 c = sym (ap length (back (c .before .before .before .before .before .before) _) ∙ size (c .before .before .before .before .before .before))
 
 lay-requires-2 : tie.Need-lay-requires-2
 lay-requires-2 c κs =
-    let n = length (c .before .before .before .before .before .before .before .before .before .before .before .before .before .before .before .before .before .before .before .before .before .before .before .args .blocks .now) in
-    let h : length (take n (c .before .before .before .before .before .before .before .before .run-rounds .last .1 .0 ++ drop n (c .before .before .before .before .before .before .before .before .before .before .before .before .lay .last .0))) ≡ n = ap length (back (c .before .before .before .before .before .before .before .before) _) ∙ size (c .before .before .before .before .before .before .before .before) in
+    let q = c .before .before .before .before .before .before in
+    let n = length (q .before .before .before .before .before .before .before .before .before .before .before .before .before .before .before .before .before .before .args .blocks .now) in
+    let h : length (take n (q .run-rounds .last .1 .0 ++ drop n (q .before .before .before .lay .last .0))) ≡ n = ap length (back q _) ∙ size q in
     omega arith
 
 same-length : tie.Need-same-length
@@ -102,10 +103,10 @@ same-length-3 c = search needs
 
 returns-2 : tie.Need-returns-2
 returns-2 c =
-    let q = c .before .before .before .before .before .before in
-    let args = c .before .before .before .before .before .before .before .before .before .before .before .before .before .before .before .before .before .before .before .before .before .args in
-    let says = subst (EndedSays (args .counts .now) (args .rules .now) _ (q .run-rounds .last .1 .0)) (c .before .m .given .1) (q .run-rounds .ensures .0) in
-    (record { accepted = accepted (q .before .before .before .before .before .before .before); run = rw (front (q .before .before .before .before)) at says; left = refl }, q .run-rounds .ensures .1)
+    let q = c .before .before .before .before in
+    let args = q .before .before .before .before .before .before .before .before .before .before .before .before .before .before .before .before .before .before .args in
+    let says = subst (EndedSays (args .counts .now) (args .rules .now) _ (q .run-rounds .last .1 .0)) (c .before .m .given .1) (q .run-rounds .ensures) in
+    (record { accepted = accepted (q .before .before .before .before .before .before .before .before .before .before); run = rw (front (q .before .before .before)) at says; left = refl }, q .before .before .before .before .before .before .before .before .clear .ensures)
 
 same-length-4 : tie.Need-same-length-4
 same-length-4 c = search needs
@@ -115,16 +116,16 @@ same-length-5 c = search needs
 
 returns-3 : tie.Need-returns-3
 returns-3 c =
-    let q = c .before .before .before .before .before .before .before .before .before .before .before in
-    let args = c .before .before .before .before .before .before .before .before .before .before .before .before .before .before .before .before .before .before .before .before .before .before .before .before .before .before .args in
+    let q = c .before .before .before .before .before .before .before .before .before in
+    let args = q .before .before .before .before .before .before .before .before .before .before .before .before .before .before .before .before .before .before .args in
     let ys : List ℕ = q .run-rounds .last .1 .0 in
-    let a = accepted (q .before .before .before .before .before .before .before) in
-    let says = subst (EndedSays (args .counts .now) (args .rules .now) _ ys) (c .before .before .before .before .before .before .m2 .given .1) (q .run-rounds .ensures .0) in
+    let a = accepted (q .before .before .before .before .before .before .before .before .before .before) in
+    let says = subst (EndedSays (args .counts .now) (args .rules .now) _ ys) (c .before .before .before .before .before .before .m2 .given .1) (q .run-rounds .ensures) in
     let over : c .before .before .lay2 .last .0 ≡ ys = c .before .before .lay2 .ensures ∙ ap (λ (x : List ℕ). replaced 0 x (args .blocks .now)) (back q _) ∙ all-over ys (args .blocks .now) (size q) in
     let bytes : Numbers (c .before .before .lay2 .last .0) = all-of (c .before .before .lay2 .last .0) 0 (λ i h. c .slice-known4 .given i .fits) in
     let whole : length ys % 4 ≡ 0 = let e = size q in let w = a .counted .whole-blocks in omega arith in
     let words : wordsOf (shapeOf ys) ≡ ys = words-shape ys whole (subst Numbers over bytes) in
-    (record { accepted = a; final = shapeOf ys; run = rw (front (q .before .before .before .before)) at says; left = over ∙ sym words }, q .run-rounds .ensures .1)
+    (record { accepted = a; final = shapeOf ys; run = rw (front (q .before .before .before)) at says; left = over ∙ sym words }, q .before .before .before .before .before .before .before .before .clear .ensures)
 
 pub run-book-spec : {M : Type 1} → statement M
 run-book-spec =
@@ -133,6 +134,7 @@ run-book-spec =
     check-book-requires
     enum-known-r
     enum-told
+    clear-requires
     slice-aggregate-lay
     lay-requires
     array-borrow-prefix-numbers

@@ -41,26 +41,25 @@ part-narrow-accepted-end-2 : tie.Need-part-narrow-accepted-end-2
 part-narrow-accepted-end-2 c = search needs
 
 -- both texts are accepted shapes
-accepted : (c : tie.After-place-of2) → let a = c .before .before .before .before .before .before .before .before .args in
-    PairAccepted (at (a .numbers .now) (c .before .place-of .result)) (at (a .numbers .now) (c .place-of2 .result))
+accepted : (c : tie.After-place-of2) → let a = c .before .before .before .before .before .before .args in PairAccepted (at (a .numbers .now) (c .before .place-of .result)) (at (a .numbers .now) (c .place-of2 .result))
 accepted c =
-    let s = c .before .before .before .before .before .before .before .before in
-    let run = s .pre .0 in
+    let s = c .before .before .before .before .before .before in
+    let texts = s .pre .0 in
     let right = s .pre .1 .0 in
     record {
-      first = subst Accepted (sym (at-is (c .before .place-of .ensures) (s .args .numbers .now))) (text-accepted (run .standing) (run .each) _ (right .first));
-      second = subst Accepted (sym (at-is (c .place-of2 .ensures) (s .args .numbers .now))) (text-accepted (run .standing) (run .each) _ (right .second));
+      first = subst Accepted (sym (at-is (c .before .place-of .ensures) (s .args .numbers .now))) (text-accepted (texts .standing) (texts .each) _ (right .first));
+      second = subst Accepted (sym (at-is (c .place-of2 .ensures) (s .args .numbers .now))) (text-accepted (texts .standing) (texts .each) _ (right .second));
     }
 
 narrow-accepted-requires : tie.Need-narrow-accepted-requires
 narrow-accepted-requires c κs =
-    let s = c .before .before .before .before .before .before .before .before .before .before .before .before .before in
-    let ok = accepted (c .before .before .before .before .before) in
+    let s = c .before .before .before .before .before .before .before .before .before .before in
+    let ok = accepted (c .before .before .before .before) in
     let few-a = few-numbers (ok .first) in
     let few-b = few-numbers (ok .second) in
     let room-x = s .pre .1 .1 .0 in
     let room-y = s .pre .1 .1 .1 in
-    (s .pre .1 .0 .known, (ok, record { work = s .pre .0 .room; first = omega arith; second = omega arith }))
+    (s .pre .1 .0 .known, (ok, (omega arith, omega arith)))
 
 same-length : tie.Need-same-length
 same-length c = search needs
@@ -68,13 +67,10 @@ same-length c = search needs
 same-length-2 : tie.Need-same-length-2
 same-length-2 c = search needs
 
-same-length-3 : tie.Need-same-length-3
-same-length-3 c = search needs
-
 returns : tie.Need-returns
 returns c =
-    let q = c .before .before .before .before .before .before .before .before .before .before .before .before in
-    answer-is (q .before .before .before .before .before .before .before .before .args .numbers .now) (q .before .place-of .ensures) (q .place-of2 .ensures) (c .before .before .before .before .before .before .narrow-accepted .ensures)
+    let q = c .before .before .before .before .before .before .before .before .before in
+    answer-is (q .before .before .before .before .before .before .args .numbers .now) (q .before .place-of .ensures) (q .place-of2 .ensures) (c .before .before .before .before .narrow-accepted .ensures)
 
 pub narrow-rule-spec : {M : Type 1} → statement M
 narrow-rule-spec =
@@ -93,5 +89,4 @@ narrow-rule-spec =
     narrow-accepted-requires
     same-length
     same-length-2
-    same-length-3
     returns)

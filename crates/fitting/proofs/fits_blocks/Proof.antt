@@ -1,15 +1,19 @@
 -- `fitting::fits_blocks`: the row of the blocks from i on, from the last block to the first. Assumes nothing.
 use mathlib.Core.Path.{_≡_, refl, sym, _∙_, subst}
-use mathlib.Core.List.{List, [], _∷_}
-use Prim.Native.Nat.{ℕ, _+_, _-_, _/_, _≤_}
+use mathlib.Core.List.{List, _∷_}
+use Prim.Native.Nat.{ℕ, _+_, _-_, _/_, _≤_, _<_}
 use native.Mathlib.Omega.{arith}
 use borrow.Author.Needs.{needs, zero≤}
 use lib.ListN.{length, drop}
-use Rattle.bases.proofs.Tells.{tells-bit}
+use Rattle.bases.specs.Base.{Holds}
+use Rattle.sets.specs.Set.{setOf}
+use Rattle.sets.proofs.Exact.{both-exactly, held-under}
 use Rattle.shapes.specs.Shape.{Block, Sound}
 use Rattle.shapes.specs.Lent.{shapeOf, meant}
 use Rattle.shapes.proofs.Lent.{shape-from, none-left, block-sound}
-use Rattle.fitting.specs.Rows.{Row}
+use Rattle.fitting.specs.Rows.{Marked, Seen, Row}
+use Rattle.fitting.proofs.Rows.{row-last}
+use Rattle.fitting.proofs.Marks.{held-places}
 use Rattle.fitting.proofs.fits_blocks.Statement.{statement}
 use Rattle.fitting.proofs.fits_blocks.Tie as tie
 
@@ -17,20 +21,25 @@ block-then : {b b′ : Block} {i j : ℕ} (s : List Block) {r : List Block} → 
 block-then s p q e = sym (e ∙ (λ m. sym p m ∷ drop (q m) s))
 
 abbrev Inv-loop : tie.InvT-loop
-Inv-loop shape text row₀ i₀ row i = (i ≤ length shape / 4) × Row (drop i (shapeOf shape)) text row
+Inv-loop shape text marks seen row₀ i₀ row i =
+    (i ≤ length shape / 4) × Marked text marks × Seen text (length text) (setOf seen) × Row (drop i (shapeOf shape)) text (setOf row)
 
 abbrev μ-loop : tie.MeasureT-loop
-μ-loop shape text row₀ i₀ row i = i
+μ-loop shape text marks seen row₀ i₀ row i = i
 
-last-row-requires : tie.Need-last-row-requires Inv-loop μ-loop
-last-row-requires c κs = c .before .before .pre .1
+mark-requires : tie.Need-mark-requires Inv-loop μ-loop
+mark-requires c κs = (c .before .before .before .pre .1, refl)
+
+single-requires : tie.Need-single-requires Inv-loop μ-loop
+single-requires c κs = omega arith
 
 loop-holds : tie.Need-loop-holds Inv-loop μ-loop
 loop-holds c =
-    let a = c .before .before .before .args in
-    let none : drop (length (a .shape .now) / 4) (shapeOf (a .shape .now)) ≡ []
-    = none-left (a .shape .now) in
-    (search needs, subst (λ (s : List Block). Row s (a .text .now) (c .last-row .result)) (sym none) (c .last-row .ensures _ refl))
+    let m = c .before in
+    let a = m .before .before .before .before .args in
+    let last = row-last (a .text .now) (c .single .ensures) in
+    let row = subst (λ (s : List Block). Row s (a .text .now) (setOf (c .single .result))) (sym (none-left (a .shape .now))) last in
+    (search needs, m .mark .ensures .0, m .mark .ensures .1, row)
 
 sub-i : tie.Need-sub-i Inv-loop μ-loop
 sub-i c = omega arith
@@ -38,38 +47,58 @@ sub-i c = omega arith
 block-at-requires : tie.Need-block-at-requires Inv-loop μ-loop
 block-at-requires c κs = omega arith
 
+both-requires : tie.Need-both-requires Inv-loop μ-loop
+both-requires c κs = search needs
+
+-- a base of two words holds no byte above 127
+low : (c : tie.After-block-at Inv-loop μ-loop) → (e : ℕ) → Holds (setOf (c .block-at .result .base)) e → e < 128
+low c = held-under 128 (c .block-at .ensures .1)
+
+places-requires : tie.Need-places-requires Inv-loop μ-loop
+places-requires c κs e h = let b = c .before in low (b .before) e (both-exactly (setOf (b .before .block-at .result .base)) _ (b .both .ensures) .so e h .0)
+
 row-before-requires : tie.Need-row-before-requires Inv-loop μ-loop
 row-before-requires c κs =
-    let l = c .before .before in
-    let s = l .before .before .before .before in
-    (s .pre .1, subst Sound (sym (c .block-at .ensures)) (block-sound (s .args .shape .now) (l .loop .i - 1) (omega arith) (s .pre .0 .sound)))
+    let b = c .before .before .before in
+    let l = b .before .before in
+    let s = l .before .before .before .before .before .before in
+    subst Sound (sym (b .block-at .ensures .0)) (block-sound (s .args .shape .now) (l .loop .i - 1) (omega arith) (s .pre .0 .sound))
 
 loop-less : tie.Need-loop-less Inv-loop μ-loop
 loop-less c = omega arith
 
 loop-again : tie.Need-loop-again Inv-loop μ-loop
 loop-again c =
-    let l = c .before .before .before in
-    let a = l .before .before .before .before .args in
+    let p = c .before in
+    let x = p .before .before in
+    let b = x .before in
+    let l = b .before .before in
+    let a = l .before .before .before .before .before .before .args in
+    let t = a .text .now in
+    let held = held-places t (l .before .before .mark .last .1 .0) _ _ (l .loop .inv .1) (l .loop .inv .2) (low b) (x .both .ensures) (p .places .ensures) in
     let back : l .loop .i - 1 + 1 ≡ l .loop .i = omega arith in
-    let blocks : meant (c .before .block-at .result) ∷ drop (l .loop .i) (shapeOf (a .shape .now)) ≡ drop (l .loop .i - 1) (shapeOf (a .shape .now))
-    = block-then (shapeOf (a .shape .now)) (c .before .block-at .ensures) back (shape-from (a .shape .now) (l .loop .i - 1) (omega arith)) in
-    (omega arith, subst (λ (s : List Block). Row s (a .text .now) (c .row-before .result)) blocks (c .row-before .ensures _ (l .loop .inv .1)))
+    let blocks : meant (b .block-at .result) ∷ drop (l .loop .i) (shapeOf (a .shape .now)) ≡ drop (l .loop .i - 1) (shapeOf (a .shape .now))
+    = block-then (shapeOf (a .shape .now)) (b .block-at .ensures .0) back (shape-from (a .shape .now) (l .loop .i - 1) (omega arith)) in (
+      omega arith,
+      l .loop .inv .1,
+      l .loop .inv .2,
+      subst (λ (s : List Block). Row s t (setOf (c .row-before .result))) blocks (c .row-before .ensures _ t refl held (l .loop .inv .3)),
+    )
 
-array-read-result : tie.Need-array-read-result Inv-loop μ-loop
-array-read-result c = search needs
+has-requires : tie.Need-has-requires Inv-loop μ-loop
+has-requires c κs = search needs
 
 returns : tie.Need-returns Inv-loop μ-loop
 returns c =
-    let l = c .before .loop in
-    let a = c .before .before .before .before .before .args in
-    let first : l .i ≡ 0 = omega arith in
-    let row : Row (shapeOf (a .shape .now)) (a .text .now) (l .row)
-    = subst (λ (i : ℕ). Row (drop i (shapeOf (a .shape .now))) (a .text .now) (l .row)) first (l .inv .1) in
-    let says = row .says 0 zero≤ in
-    tells-bit _ (says .so) (says .mark)
+    let l = c .before .before in
+    let a = l .before .before .before .before .before .before .args in
+    let first : l .loop .i ≡ 0 = omega arith in
+    let row : Row (shapeOf (a .shape .now)) (a .text .now) (setOf (l .loop .row))
+    = subst (λ (i : ℕ). Row (drop i (shapeOf (a .shape .now))) (a .text .now) (setOf (l .loop .row))) first (l .loop .inv .3) in
+    record { so = λ e. row .so 0 (c .has .ensures .so e) .1; not-so = λ e f. c .has .ensures .not-so e (row .mark 0 (zero≤, f)) }
 
 pub fits-blocks-spec : {M : Type 1} → statement M
 fits-blocks-spec =
     tie.close
-    (tie.spec Inv-loop μ-loop last-row-requires loop-holds sub-i block-at-requires row-before-requires loop-less loop-again array-read-result returns)
+    (tie.spec Inv-loop μ-loop mark-requires single-requires loop-holds sub-i block-at-requires both-requires places-requires row-before-requires
+    loop-less loop-again has-requires returns)

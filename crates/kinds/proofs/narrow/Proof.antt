@@ -1,4 +1,4 @@
--- `kinds::narrow`: the refusals of a pair, then the work. Assumes nothing.
+-- `kinds::narrow`: the refusals of a pair, then the narrowing. Assumes nothing.
 use mathlib.Core.Path.{refl, subst}
 use borrow.Author.Needs.{needs}
 use lib.ListN.{length}
@@ -23,10 +23,13 @@ accepted c =
     let a = c .before .before .before .before .before .before .before .before .args in
     subst (NarrowChecked (a .x .now) (a .y .now) (length (a .work .now)) (length (a .out-x .now)) (length (a .out-y .now))) (c .enum-told .given .1) (c .before .before .check-narrow .ensures)
 
+clear-requires : tie.Need-clear-requires
+clear-requires c κs = accepted (c .before) .1 .work
+
 narrow-accepted-requires : tie.Need-narrow-accepted-requires
 narrow-accepted-requires c κs =
-    let ok = accepted (c .before .before .before) in
-    (c .before .before .before .before .before .before .before .before .before .before .before .pre, ok)
+    let ok = accepted (c .before .before .before .before .before .before) in
+    (c .before .before .before .before .before .before .before .before .before .before .before .before .before .before .pre, (ok .0, (ok .1 .first, ok .1 .second)))
 
 same-length : tie.Need-same-length
 same-length c = search needs
@@ -39,9 +42,8 @@ same-length-3 c = search needs
 
 returns : tie.Need-returns
 returns c =
-    let n = c .before .before .before .before .before .before .before in
-    let ok = accepted (n .before .before .before .before) in
-    (record { shapes = ok .0; room = ok .1; work-cleared = n .narrow-accepted .ensures .work-cleared }, n .narrow-accepted .ensures .both (c .if1 .taken))
+    let ok = accepted (c .before .before .before .before .before .before .before .before .before .before .before .before) in
+    (record { shapes = ok .0; room = ok .1; work-cleared = c .before .before .before .before .before .before .before .before .before .before .clear .ensures }, c .before .before .before .before .before .narrow-accepted .ensures .both (c .if1 .taken))
 
 returns-2 : tie.Need-returns-2
 returns-2 c =
@@ -61,11 +63,24 @@ same-length-6 c = search needs
 
 returns-3 : tie.Need-returns-3
 returns-3 c =
-    let n = c .before .before .before .before .before .before .before in
-    let ok = accepted (n .before .before .before .before) in
-    (record { shapes = ok .0; room = ok .1; work-cleared = n .narrow-accepted .ensures .work-cleared }, n .narrow-accepted .ensures .neither (c .if1 .left))
+    let ok = accepted (c .before .before .before .before .before .before .before .before .before .before .before .before) in
+    (record { shapes = ok .0; room = ok .1; work-cleared = c .before .before .before .before .before .before .before .before .before .before .clear .ensures }, c .before .before .before .before .before .narrow-accepted .ensures .neither (c .if1 .left))
 
 pub narrow-spec : {M : Type 1} → statement M
 narrow-spec =
     tie.close
-    (tie.spec check-narrow-requires enum-known-r enum-told narrow-accepted-requires same-length same-length-2 same-length-3 returns returns-2 same-length-4 same-length-5 same-length-6 returns-3)
+    (tie.spec
+    check-narrow-requires
+    enum-known-r
+    enum-told
+    clear-requires
+    narrow-accepted-requires
+    same-length
+    same-length-2
+    same-length-3
+    returns
+    returns-2
+    same-length-4
+    same-length-5
+    same-length-6
+    returns-3)

@@ -1,13 +1,15 @@
 -- `kinds::narrow_accepted`: by the kind. Assumes nothing.
 use borrow.Author.Needs.{needs}
-use Rattle.kinds.proofs.Kind.{whole, by-equality, by-order}
+use Rattle.kinds.proofs.Kind.{whole, few, by-equality, by-order}
 use Rattle.kinds.proofs.narrow_accepted.Statement.{statement}
 use Rattle.kinds.proofs.narrow_accepted.Tie as tie
 
 narrow-equal-requires : tie.Need-narrow-equal-requires
 narrow-equal-requires c κs =
-    let p = c .before .before .before .before .before .before .before .before .before .pre in
-    (whole (p .1 .0 .first), (whole (p .1 .0 .second), p .1 .1))
+    let p = c .before .before .before .before .before .before .before .pre in
+    let x = p .1 .0 .first in
+    let y = p .1 .0 .second in
+    ((whole x, whole y), ((few x, few y), p .1 .1))
 
 same-length : tie.Need-same-length
 same-length c = search needs
@@ -15,34 +17,22 @@ same-length c = search needs
 same-length-2 : tie.Need-same-length-2
 same-length-2 c = search needs
 
-same-length-3 : tie.Need-same-length-3
-same-length-3 c = search needs
-
 returns : tie.Need-returns
-returns c =
-    let n = c .before .before .before .before .before .before in
-    by-equality _ (n .before .before .before .before .if1 .taken) (n .narrow-equal .ensures)
+returns c = by-equality _ (c .before .before .before .before .before .before .before .if1 .taken) (c .before .before .before .before .narrow-equal .ensures)
 
 narrow-order-requires : tie.Need-narrow-order-requires
-narrow-order-requires c κs =
-    let p = c .before .before .before .before .before .before .before .before .before .pre in
-    (p .1 .0 .first, (p .1 .0 .second, p .1 .1))
+narrow-order-requires c κs = let p = c .before .before .before .before .before .before .before .pre in (p .1 .0 .first, (p .1 .0 .second, p .1 .1))
+
+same-length-3 : tie.Need-same-length-3
+same-length-3 c = search needs
 
 same-length-4 : tie.Need-same-length-4
 same-length-4 c = search needs
 
-same-length-5 : tie.Need-same-length-5
-same-length-5 c = search needs
-
-same-length-6 : tie.Need-same-length-6
-same-length-6 c = search needs
-
 returns-2 : tie.Need-returns-2
-returns-2 c =
-    let n = c .before .before .before .before .before .before in
-    by-order _ (n .before .before .before .before .before .before .before .before .before .before .pre .0) (n .before .before .before .before .if1 .left) (n .narrow-order .ensures .0) (n .narrow-order .ensures .1)
+returns-2 c = let n = c .before .before .before .before .narrow-order .ensures in by-order _ (c .before .before .before .before .before .before .before .before .before .before .before .before .pre .0) (c .before .before .before .before .before .before .before .if1 .left) (n .0) (n .1)
 
 pub narrow-accepted-spec : {M : Type 1} → statement M
 narrow-accepted-spec =
     tie.close
-    (tie.spec narrow-equal-requires same-length same-length-2 same-length-3 returns narrow-order-requires same-length-4 same-length-5 same-length-6 returns-2)
+    (tie.spec narrow-equal-requires same-length same-length-2 returns narrow-order-requires same-length-3 same-length-4 returns-2)

@@ -1,4 +1,5 @@
 -- `orders::narrow_by`: the extreme text of the other shape, then the one side. Assumes nothing.
+use native.Mathlib.Omega.{arith}
 use mathlib.Core.Path.{ap, _∙_}
 use Prim.Native.Nat.{ℕ}
 use lib.ListN.{length, length-replicate}
@@ -29,20 +30,17 @@ small c = small-bases _ (all-of (c .before .before .args .other .now) 0 (λ i h.
 
 narrow-side-requires : tie.Need-narrow-side-requires
 narrow-side-requires c κs =
-    let s = c .before .before .before .before .before .before .before .before .before .before .before in
-    let w = c .before .before .before .before .write-extreme .ensures in
-    (whole-of (s .pre .0), (text-plain w (c .before .before .before .before .write-extreme .kept .1 .1 .0 ∙ ap length (c .before .before .before .before .before .before .blank-text .ensures) ∙ length-replicate {A = ℕ} 250 0) (small (c .before .before .before .before .before .before .before .before .before)), (text-short w, s .pre .1 .1 .0, s .pre .1 .1 .1)))
+    let s = c .before .before .before .before .before .before .before .before .before in
+    let w = c .before .before .before .write-extreme .ensures in
+    let long = c .before .before .before .write-extreme .kept .1 .1 .0 ∙ ap length (c .before .before .before .before .before .blank-text .ensures) ∙ length-replicate {A = ℕ} 250 0 in
+    let few = s .pre .0 .right .few in
+    (whole-of (s .pre .0), (text-plain w long (small (c .before .before .before .before .before .before .before)), (text-short w, omega arith, s .pre .1 .1)))
 
 same-length : tie.Need-same-length
 same-length c = search needs
 
-same-length-2 : tie.Need-same-length-2
-same-length-2 c = search needs
-
 returns : tie.Need-returns
-returns c =
-    let o = c .before .before .before .before .narrow-side .ensures in
-    (one-by (text-taken (c .before .before .before .before .before .before .before .before .before .write-extreme .ensures)) (o .0), o .1)
+returns c = one-by (text-taken (c .before .before .before .before .before .before .write-extreme .ensures)) (c .before .before .narrow-side .ensures)
 
 pub narrow-by-spec : {M : Type 1} → statement M
 narrow-by-spec =
@@ -54,5 +52,4 @@ narrow-by-spec =
     slice-aggregate-narrow-side
     narrow-side-requires
     same-length
-    same-length-2
     returns)

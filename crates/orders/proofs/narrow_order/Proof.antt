@@ -1,5 +1,4 @@
 -- `orders::narrow_order`: x by the greatest text of y, then y by the least text of x as it was. Assumes nothing.
-use native.Mathlib.Omega.{arith}
 use borrow.Author.Tests.{not-true, not-false}
 use Rattle.shapes.specs.Lent.{shapeOf}
 use Rattle.shapes.proofs.All.{all-of}
@@ -21,76 +20,36 @@ greatest : (c : tie.After-shared-slice-known2) → Extreme Greatest (shapeOf (c 
 greatest c = is-extreme Greatest (small-bases _ (all-of (c .before .before .args .y .now) 0 (λ i h. c .shared-slice-known2 .given i .fits))) (c .before .before .pre .1 .0 .sound)
 
 narrow-first-requires : tie.Need-narrow-first-requires
-narrow-first-requires c κs = let s = c .before .before .before .before .before .before .before in let r = s .pre .1 .1 in (s .pre .0, (s .pre .1 .0, (r .work, r .first)))
-
-clear-requires : tie.Need-clear-requires
-clear-requires c κs = let l = c .before .before .before .before .before .before .narrow-first .ensures .1 .long in let r = c .before .before .before .before .before .before .before .before .before .before .before .before .before .before .pre .1 .1 .work in omega arith
+narrow-first-requires c κs = search needs
 
 same-length : tie.Need-same-length
 same-length c = search needs
 
-same-length-2 : tie.Need-same-length-2
-same-length-2 c = search needs
-
 returns : tie.Need-returns
 returns c =
-    let n = c .before .before .before .before .before .before .before .before .before .narrow-first .ensures in
-    let no = not-true _ (c .before .before .before .before .if1 .taken) in
-    let l = least (c .before .before .before .before .before .before .before .before .before .before .before .before .before .before .before .before) in
-    let g = greatest (c .before .before .before .before .before .before .before .before .before .before .before .before .before .before .before) in
-    let e = c .before .before .clear .ensures in
-    (λ z. says-none (at-most-faced z) _ _ _ _ l g no (n .0) (n .1) e, λ z. says-none (before-faced z) _ _ _ _ l g no (n .0) (n .1) e)
+    let n = c .before .before .before .narrow-first .ensures in
+    let no = not-true _ (c .if1 .taken) in
+    let l = least (c .before .before .before .before .before .before .before .before) in
+    let g = greatest (c .before .before .before .before .before .before .before) in
+    (λ z. says-none (at-most-faced z) _ _ _ _ l g no n, λ z. says-none (before-faced z) _ _ _ _ l g no n)
 
 narrow-second-requires : tie.Need-narrow-second-requires
-narrow-second-requires c κs = (
-  search needs,
-  (
-    search needs,
-    (
-      let l = c .before .before .before .before .before .before .before .narrow-first .ensures .1 .long in let w = c .before .before .before .before .before .before .before .before .before .before .before .before .before .before .before .pre .1 .1 .work in omega arith,
-      c .before .before .before .before .before .before .before .before .before .before .before .before .before .before .before .pre .1 .1 .second,
-    ),
-  ),
-)
+narrow-second-requires c κs = search needs
 
-clear-requires-2 : tie.Need-clear-requires-2
-clear-requires-2 c κs =
-    let l = c .before .before .before .before .before .before .before .before .before .before .before .before .before .narrow-first .ensures .1 .long in
-    let k = c .before .before .before .before .before .narrow-second .ensures .1 .long in
-    let r = c .before .before .before .before .before .before .before .before .before .before .before .before .before .before .before .before .before .before .before .before .before .pre .1 .1 .work in
-    omega arith
+same-length-2 : tie.Need-same-length-2
+same-length-2 c = search needs
 
 same-length-3 : tie.Need-same-length-3
 same-length-3 c = search needs
 
-same-length-4 : tie.Need-same-length-4
-same-length-4 c = search needs
-
-same-length-5 : tie.Need-same-length-5
-same-length-5 c = search needs
-
 returns-2 : tie.Need-returns-2
 returns-2 c =
-    let n = c .before .before .before .before .before .before .before .before .before .before .before .before .before .before .before .before .narrow-first .ensures in
-    let k = c .before .before .before .before .before .before .before .before .narrow-second .ensures in
-    let yes = not-false _ (c .before .before .before .before .before .before .before .before .before .before .before .if1 .left) in
-    let l = least (c .before .before .before .before .before .before .before .before .before .before .before .before .before .before .before .before .before .before .before .before .before .before .before) in
-    let g = greatest (c .before .before .before .before .before .before .before .before .before .before .before .before .before .before .before .before .before .before .before .before .before .before) in
-    let e = c .before .before .clear2 .ensures in
-    (λ z. says-some (at-most-faced z) _ _ _ _ l g yes (n .0) (k .0) (n .1) (k .1) e, λ z. says-some (before-faced z) _ _ _ _ l g yes (n .0) (k .0) (n .1) (k .1) e)
+    let n = c .before .before .before .before .before .before .before .narrow-first .ensures in
+    let k = c .before .before .narrow-second .ensures in
+    let yes = not-false _ (c .before .before .before .before .if1 .left) in
+    let l = least (c .before .before .before .before .before .before .before .before .before .before .before .before) in
+    let g = greatest (c .before .before .before .before .before .before .before .before .before .before .before) in
+    (λ z. says-some (at-most-faced z) _ _ _ _ l g yes n k, λ z. says-some (before-faced z) _ _ _ _ l g yes n k)
 
 pub narrow-order-spec : {M : Type 1} → statement M
-narrow-order-spec =
-    tie.close
-    (tie.spec
-    narrow-first-requires
-    clear-requires
-    same-length
-    same-length-2
-    returns
-    narrow-second-requires
-    clear-requires-2
-    same-length-3
-    same-length-4
-    same-length-5
-    returns-2)
+narrow-order-spec = tie.close (tie.spec narrow-first-requires same-length returns narrow-second-requires same-length-2 same-length-3 returns-2)

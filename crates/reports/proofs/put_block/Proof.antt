@@ -1,7 +1,14 @@
 -- `reports::put_block`: the two words of the base, the two counts and the newline. Assumes nothing.
-use mathlib.Core.List.{_++_}
+use mathlib.Core.Path.{sym, ap, _∙_}
+use mathlib.Core.List.{[], _∷_, _++_}
 use Prim.Native.Nat.{_+_}
 use native.Mathlib.Omega.{arith}
+use Rattle.sets.specs.Set.{Proper}
+use Rattle.sets.proofs.Exact.{held-under}
+use Rattle.sets.proofs.Four.{first-two-words}
+use Rattle.shapes.specs.Shape.{Block}
+use Rattle.shapes.proofs.Put.{of-base}
+use Rattle.book_lines.specs.Book.{blockLine, joined}
 use Rattle.numerals.specs.Digits.{digits}
 use Rattle.numerals.proofs.Digits.{digits-length}
 use Rattle.reports.specs.Put.{pairEnd}
@@ -28,11 +35,15 @@ put-pair-requires c κs =
     let m = c .before .before .before .put-digits2 .kept .1 .1 .1 .0 in
     let room = c .before .before .before .before .before .before .before .before .before .before .pre .0 in
     let right = c .before .before .before .before .before .before .before .before .before .before .pre .1 in
-    let l = pair-five (c .before .before .before .before .before .before .before .before .before .before .args .w .lower) (c .before .before .before .before .before .before .before .before .before .before .args .w .upper) (right .lower) (right .upper) in
+    let l = pair-five (c .before .before .before .before .before .before .before .before .before .before .args .b .lower) (c .before .before .before .before .before .before .before .before .before .before .args .b .upper) (right .lower) (right .upper) in
     omega arith
 
 same-length : tie.Need-same-length
 same-length c = search needs
+
+-- the words of the base are 64-bit words
+proper : (c : tie.Start) → Proper (c .args .b .base)
+proper c = search needs
 
 returns : tie.Need-returns
 returns c =
@@ -41,15 +52,17 @@ returns c =
     let two = c .before .before .before .before .before .before .put-digits2 in
     let three = c .before .before .put-pair in
     let right = c .before .before .before .before .before .before .before .before .before .before .before .before .before .pre .1 in
-    let h = digits-length 16 16 (a .w .high) in
-    let g = digits-length 16 16 (a .w .low) in
-    let first = put-of (a .out .now) (a .at) (digits 16 16 (a .w .high)) (one .last .1 .1 .1 .0) (a .at + 16) (omega arith) (one .ensures) in
-    let second = put-of (one .last .1 .1 .1 .0) (a .at + 16) (digits 16 16 (a .w .low)) (two .last .1 .1 .1 .0) (a .at + 32) (omega arith) (two .ensures) in
-    let both = put-then (a .out .now) (a .at) (digits 16 16 (a .w .high)) (one .last .1 .1 .1 .0) (a .at + 16) (digits 16 16 (a .w .low)) (two .last .1 .1 .1 .0) (a .at + 32) first second in
-    let all = put-then (a .out .now) (a .at) (digits 16 16 (a .w .high) ++ digits 16 16 (a .w .low)) (two .last .1 .1 .1 .0) (a .at + 32) (pairEnd (a .w .lower) (a .w .upper)) (three .last .1 .1 .0) (three .result) both (three .ensures) in
-    let l = pair-five (a .w .lower) (a .w .upper) (right .lower) (right .upper) in
+    let h = digits-length 16 16 (a .b .base .b) in
+    let g = digits-length 16 16 (a .b .base .a) in
+    let first = put-of (a .out .now) (a .at) (digits 16 16 (a .b .base .b)) (one .last .1 .1 .1 .0) (a .at + 16) (omega arith) (one .ensures) in
+    let second = put-of (one .last .1 .1 .1 .0) (a .at + 16) (digits 16 16 (a .b .base .a)) (two .last .1 .1 .1 .0) (a .at + 32) (omega arith) (two .ensures) in
+    let both = put-then (a .out .now) (a .at) (digits 16 16 (a .b .base .b)) (one .last .1 .1 .1 .0) (a .at + 16) (digits 16 16 (a .b .base .a)) (two .last .1 .1 .1 .0) (a .at + 32) first second in
+    let all = put-then (a .out .now) (a .at) (digits 16 16 (a .b .base .b) ++ digits 16 16 (a .b .base .a)) (two .last .1 .1 .1 .0) (a .at + 32) (pairEnd (a .b .lower) (a .b .upper)) (three .last .1 .1 .0) (three .result) both (three .ensures) in
+    let l = pair-five (a .b .lower) (a .b .upper) (right .lower) (right .upper) in
     let p = three .ensures .place in
-    (put-as _ _ _ _ _ _ (block-text (a .w .low) (a .w .high) (a .w .lower) (a .w .upper) (omega arith)) all, omega arith)
+    let small = proper (c .before .before .before .before .before .before .before .before .before .before .before .before .before) in
+    let words = first-two-words (a .b .base) small (held-under 128 (right .base)) in
+    (put-as _ _ _ _ _ _ (block-text (a .b .base .a) (a .b .base .b) (a .b .lower) (a .b .upper) (small .a) ∙ ap (λ (b : Block). joined (blockLine b ∷ [])) (of-base (sym words))) all, omega arith)
 
 pub put-block-spec : {M : Type 1} → statement M
 put-block-spec =

@@ -35,7 +35,7 @@ put-block-requires c κs =
     let k = l .inv .2 in
     let m = l .inv .4 in
     let room = c .before .before .before .before .before .before .pre .0 in
-    (omega arith, subst RightBlock (sym (c .before .block-at .ensures)) (right-at (c .before .before .before .before .before .before .args .blocks .now) (l .i) (omega arith) (c .before .before .before .before .before .before .pre .1)))
+    (omega arith, subst RightBlock (sym (c .before .block-at .ensures .0)) (right-at (c .before .before .before .before .before .before .args .blocks .now) (l .i) (omega arith) (c .before .before .before .before .before .before .pre .1)))
 
 add-i : tie.Need-add-i Inv-loop μ-loop
 add-i c = let h = c .before .before .before .before .before .loop-test .taken in omega arith
@@ -55,7 +55,7 @@ loop-again c =
       l .inv .0,
       omega arith,
       put .kept .1 .0 ∙ l .inv .2,
-      put-as _ _ _ _ _ _ (block-more (a .blocks .now) (l .i) (meant (c .before .before .before .before .block-at .result)) here (c .before .before .before .before .block-at .ensures)) (put-then (a .out .now) (a .at) _ (l .out) (l .end) _ (put .last .1 .0) (put .result) (l .inv .3) (put .ensures .0)),
+      put-as _ _ _ _ _ _ (block-more (a .blocks .now) (l .i) (meant (c .before .before .before .before .block-at .result)) here (c .before .before .before .before .block-at .ensures .0)) (put-then (a .out .now) (a .at) _ (l .out) (l .end) _ (put .last .1 .0) (put .result) (l .inv .3) (put .ensures .0)),
       omega arith,
     )
 

@@ -32,7 +32,7 @@ returns c =
     record {
       within = omega arith;
       good = p .loop .inv .2;
-      bad = λ h s. c .before .is-sound .ensures .not-so (not-true _ (c .if1 .taken)) (subst Sound (sym (c .before .before .block-at .ensures)) s);
+      bad = λ h s. c .before .is-sound .ensures .not-so (not-true _ (c .if1 .taken)) (subst Sound (sym (c .before .before .block-at .ensures .0)) s);
     }
 
 add-good : tie.Need-add-good Inv-loop μ-loop
@@ -47,7 +47,7 @@ loop-again c =
       search needs,
       omega arith,
       below-more _ (p .loop .good) (p .loop .inv .2)
-          (subst Sound (c .before .before .block-at .ensures) (c .before .is-sound .ensures .so (not-false _ (c .if1 .left)))),
+          (subst Sound (c .before .before .block-at .ensures .0) (c .before .is-sound .ensures .so (not-false _ (c .if1 .left)))),
     )
 
 returns-2 : tie.Need-returns-2 Inv-loop μ-loop

@@ -24,7 +24,7 @@ loop-holds c = (search needs, search needs, zero-add _)
 added : (c : tie.After-block-at Inv-loop μ-loop) → c .before .before .loop .sum + c .block-at .result .upper + total (drop (c .before .before .loop .i + 1) (shapeOf (c .before .before .before .before .args .shape .now))) ≡ total (shapeOf (c .before .before .before .before .args .shape .now))
 added c =
     let l = c .before .before in
-    let u = ap (λ (b : Block). b .upper) (c .block-at .ensures) in
+    let u = ap (λ (b : Block). b .upper) (c .block-at .ensures .0) in
     let ahead = total-from (l .before .before .args .shape .now) (l .loop .i) (omega arith) in
     omega arith
 

@@ -1,0 +1,2 @@
+-- Equality's second pass.
+pub mod Back

@@ -1,0 +1,2 @@
+-- Equality's first pass.
+pub mod Forth

@@ -1,0 +1,91 @@
+// Equality's first pass: for each position of one shape the row of the positions of the other that one text leads to from the starts.
+use sets::Set;
+use shapes::Block;
+ghost use mathlib.Core.Path.{_≡_};
+ghost use mathlib.Core.Bool.{true, false};
+ghost use Prim.Native.Nat.{_+_, _/_, _≤_};
+ghost use lib.Bits.{bitOr};
+ghost use lib.ListN.{length};
+ghost use Rattle.sets.specs.Set.{setOf};
+ghost use Rattle.shapes.specs.Lent.{Whole, meant, shapeOf};
+ghost use Rattle.rows.specs.Row.{rowIn, rowCount, tableSize};
+ghost use Rattle.rows.specs.Steps.{InTurn};
+ghost use Rattle.row_lay.specs.Lay.{Lay};
+ghost use Rattle.equal_forth.specs.Forth.{BlockRows, Follows, Before, Pass};
+
+// Adds a set where it counts.
+pub fn with(s: Set, t: Set, on: bool) -> Set
+    ensures { λ r. ⌜ (on ≡ true → setOf r ≡ bitOr (setOf s) (setOf t)) ⌝ }
+    ensures { λ r. ⌜ (on ≡ false → setOf r ≡ setOf s) ⌝ }
+{
+    if on {
+        return sets::either(s, t);
+    }
+    s
+}
+
+// The rows of the block b from position p on, which s enters; gives what the next position is entered by.
+fn forth_block(
+    zones: &[u64],
+    ends: &[u64],
+    k: usize,
+    mine: Set,
+    b: Block,
+    p: usize,
+    s: Set,
+    rows: &mut [u64],
+) -> Set
+    requires { ⌜ (k ≤ rowCount (now zones)) × (k ≤ rowCount (now ends)) ⌝ }
+    requires { ⌜ InTurn (rowIn (now zones)) (rowIn (now ends)) k ⌝ }
+    requires { ⌜ (p + b .upper ≤ 250) × (length (now rows) ≡ tableSize) ⌝ }
+    ensures { λ r. ⌜ Follows (rowIn (now (zones .entry))) (rowIn (now (ends .entry))) k (setOf mine) p (meant b) (setOf s) (λ X Y. BlockRows X Y p (meant b) (now (rows .exit)) (setOf r)) ⌝ }
+    ensures { λ _. ⌜ Before p (now (rows .entry)) (now (rows .exit)) ⌝ }
+{
+    let upper = b.upper as usize;
+    let mut enter = s;
+    let mut stopped = sets::none();
+    let mut o = 0;
+    while o < upper {
+        let row = row_steps::forth(zones, ends, k, enter);
+        rows::put_row(rows, p + o, row);
+        stopped = with(stopped, row, b.lower <= o as u64);
+        enter = sets::up(sets::both(row, mine));
+        o += 1;
+    }
+    sets::either(enter, stopped)
+}
+
+// The rows of all blocks of x beside y, which is laid out in `zones`, `ends` and `slots`; gives the last.
+pub fn forth(
+    x: &[u64],
+    y: &[u64],
+    zones: &[u64],
+    ends: &[u64],
+    slots: &[u64],
+    mines: &mut [u64],
+    rows: &mut [u64],
+) -> Set
+    requires { ⌜ Whole (now x) × Whole (now y) ⌝ }
+    requires { ⌜ Lay (shapeOf (now y)) (now zones) (now ends) (now slots) ⌝ }
+    requires { ⌜ (length (now y) ≤ length (now zones)) × (length (now y) ≤ length (now ends)) × (length (now y) ≤ length (now slots)) ⌝ }
+    requires { ⌜ (length (now x) ≤ length (now mines)) × (length (now rows) ≡ tableSize) ⌝ }
+    ensures { λ r. ⌜ Pass (now (x .entry)) (now (y .entry)) (now (mines .exit)) (now (rows .exit)) (setOf r) ⌝ }
+    ensures { λ _. ⌜ (length (now (mines .exit)) ≡ length (now (mines .entry))) × (length (now (rows .exit)) ≡ length (now (rows .entry))) ⌝ }
+{
+    let n = x.len() / shapes::SIZE;
+    let k = y.len() / shapes::SIZE;
+    let mut s = sets::single(0);
+    let mut p = 0;
+    let mut i = 0;
+    while i < n {
+        let b = shapes::block_at(x, i);
+        let mine = row_steps::matching(b.base, y, slots, k);
+        rows::put_row(mines, i, mine);
+        s = forth_block(zones, ends, k, mine, b, p, s, rows);
+        p += b.upper as usize;
+        i += 1;
+    }
+    let last = row_steps::forth(zones, ends, k, s);
+    rows::put_row(rows, p, last);
+    last
+}

@@ -1,2 +1,0 @@
--- What the inner functions of narrowing under equality work with.
-pub mod Inner

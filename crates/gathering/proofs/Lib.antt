@@ -1,2 +1,0 @@
--- The laws of what the table tells.
-pub mod Side

@@ -1,3 +1,0 @@
--- The laws of guides.
-pub mod Sides
-pub mod Slots

@@ -1,2 +1,0 @@
--- The laws of slots as numbers.
-pub mod Slots

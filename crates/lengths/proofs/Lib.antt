@@ -1,2 +1,0 @@
--- The laws of a run's lengths.
-pub mod Length

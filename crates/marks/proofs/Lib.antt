@@ -1,2 +1,0 @@
--- The laws of the marks.
-pub mod Marks

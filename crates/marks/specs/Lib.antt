@@ -1,2 +1,0 @@
--- The marks of the table over two shapes.
-pub mod Marks

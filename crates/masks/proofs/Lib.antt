@@ -1,2 +1,0 @@
--- The laws of the bits of a word.
-pub mod Words

@@ -1,2 +1,0 @@
--- Bases that hold one character, those below one, or those above.
-pub mod Words

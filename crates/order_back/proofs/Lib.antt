@@ -1,0 +1,2 @@
+-- The laws of an order's second pass.
+pub mod Groups

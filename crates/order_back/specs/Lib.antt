@@ -1,0 +1,2 @@
+-- An order's second pass.
+pub mod Back

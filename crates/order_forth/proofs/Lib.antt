@@ -1,0 +1,2 @@
+-- The laws of an order's first pass.
+pub mod Pass

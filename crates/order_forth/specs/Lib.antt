@@ -1,0 +1,2 @@
+-- An order's first pass.
+pub mod Forth

@@ -1,0 +1,3 @@
+-- The guide of a fixed text: which side of it is right.
+pub mod Sides
+pub mod Guide

@@ -1,0 +1,7 @@
+-- The laws of rows on one side of an order.
+pub mod Laid
+pub mod Evens
+pub mod Rests
+pub mod Passes
+pub mod Known
+pub mod Told

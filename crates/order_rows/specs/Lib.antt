@@ -1,0 +1,3 @@
+-- One side of an order, told by sets of positions.
+pub mod Laid
+pub mod Rows

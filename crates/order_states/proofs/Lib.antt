@@ -1,0 +1,2 @@
+-- The laws of the states of an order's second pass.
+pub mod Pass

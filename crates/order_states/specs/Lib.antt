@@ -1,0 +1,2 @@
+-- The states of an order's second pass.
+pub mod States

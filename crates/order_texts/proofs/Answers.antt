@@ -1,0 +1,46 @@
+-- Answers of one side, and the guide of a fixed text as the rule of being on its right side. Assumes nothing.
+use mathlib.Core.Path.{_≡_, refl, sym}
+use mathlib.Core.Bool.{Bool, true, false}
+use mathlib.Core.List.{List}
+use Prim.Native.Nat.{ℕ, _<_}
+use native.Mathlib.Omega.{arith}
+use Rattle.sets.proofs.Exact.{held-under}
+use Rattle.shapes.specs.All.{All, more}
+use Rattle.shapes.specs.Shape.{Block, Small, Filling, done, fill, textOf}
+use Rattle.shapes.specs.Lent.{shapeOf}
+use Rattle.shapes.proofs.All.{all-append, all-map}
+use Rattle.hulls.specs.Hull.{None}
+use Rattle.hulls.proofs.Hull.{same-rule, same-none}
+use Rattle.extremes.specs.declared.Direction.{Direction}
+use Rattle.order_sides.specs.Guide.{Kept}
+use Rattle.order_guides.specs.Sides.{Side}
+use Rattle.order_guides.specs.Guide.{guideOf}
+use Rattle.order_guides.proofs.Sides.{guide-side, side-guide}
+use Rattle.order_texts.specs.Narrowed.{OneNarrowed, One}
+
+-- the characters of a shape of 64-bit numbers
+pub text-small : {S : List Block} {f : List (List ℕ)} → All Small S → Filling S f → All (λ c. c < 128) (textOf f)
+unfolding textOf
+text-small g done = All.none
+text-small (more s g) (fill {b = b} r f) = all-append (all-map (λ c h. held-under 128 s c h) (r .held)) (text-small g f)
+
+true-false : {A : Type 0} → _≡_ {A = Bool} true false → A
+true-false e = let z : _≡_ {A = ℕ} 0 1 = cc in absurd (omega arith)
+
+pub one-none : {P : List (List ℕ) → Type 0} {x out : List ℕ} → None P (shapeOf x) → One P x out out false
+one-none n = record { some = λ e. true-false (sym e); none = λ e. n; kept = λ e. refl }
+
+pub one-some : {P : List (List ℕ) → Type 0} {x out out′ : List ℕ} → OneNarrowed P x out out′ → One P x out out′ true
+one-some s = record { some = λ e. s; none = λ e. true-false e; kept = λ e. true-false e }
+
+one-map : {P Q : List (List ℕ) → Type 0} {x out out′ : List ℕ} {r : Bool} → ((f : List (List ℕ)) → Filling (shapeOf x) f → P f → Q f) → ((f : List (List ℕ)) → Filling (shapeOf x) f → Q f → P f)
+    → One P x out out′ r → One Q x out out′ r
+one-map to from o = record {
+  some = λ e. let s = o .some e in record { blocks = s .blocks; hull = same-rule to from (s .hull); words = s .words };
+  none = λ e. same-none from (o .none e);
+  kept = o .kept;
+}
+
+pub one-side : (d : Direction) (strict : Bool) (T : List ℕ) {x out out′ : List ℕ} {r : Bool} → All Small (shapeOf x)
+    → One (Kept (guideOf d strict T)) x out out′ r → One (λ f. Side d strict (textOf f) T) x out out′ r
+one-side d strict T s o = one-map (λ f z k. guide-side d strict T k) (λ f z k. side-guide d strict T (text-small s z) k) o

@@ -1,0 +1,85 @@
+-- `order_texts::freed`: all after the first position where a text parts is free. Assumes nothing.
+use mathlib.Core.Path.{refl}
+use Rattle.order_texts.proofs.Known.{freed-none, freed-from}
+use borrow.Author.Needs.{needs}
+use Rattle.order_texts.proofs.freed.Statement.{statement}
+use Rattle.order_texts.proofs.freed.Tie as tie
+
+is-empty-requires : tie.Need-is-empty-requires
+is-empty-requires c κs = search needs
+
+returns : tie.Need-returns
+returns c = (freed-none (c .before .is-empty .ensures .so (c .if1 .taken)), refl)
+
+first-requires : tie.Need-first-requires
+first-requires c κs = c .before .is-empty .ensures .not-so (c .if1 .left)
+
+add-between : tie.Need-add-between
+add-between c = search needs
+
+add-between-2 : tie.Need-add-between-2
+add-between-2 c = search needs
+
+between-requires : tie.Need-between-requires
+between-requires c κs = search needs
+
+add-below : tie.Need-add-below
+add-below c = search needs
+
+below-requires : tie.Need-below-requires
+below-requires c κs = search needs
+
+back-requires : tie.Need-back-requires
+back-requires c κs = search needs
+
+below-requires-2 : tie.Need-below-requires-2
+below-requires-2 c κs = search needs
+
+give-requires : tie.Need-give-requires
+give-requires c κs = let p = c .before .before .before .before .before .before .before .before .before .before .before .before .before .before .pre .0 in (p .2, p .3)
+
+both-requires : tie.Need-both-requires
+both-requires c κs = search needs
+
+either-requires : tie.Need-either-requires
+either-requires c κs = search needs
+
+down-requires : tie.Need-down-requires
+down-requires c κs = search needs
+
+either-requires-2 : tie.Need-either-requires-2
+either-requires-2 c κs = search needs
+
+same-length : tie.Need-same-length
+same-length c = search needs
+
+returns-2 : tie.Need-returns-2
+returns-2 c =
+    let g = c .before .before .before .before .before .before .give .ensures in
+    (
+      freed-from (c .before .before .before .before .before .before .before .before .before .before .before .before .first .ensures .0) (c .before .before .before .before .before .before .before .before .before .before .before .between .ensures) (c .before .before .before .before .before .before .before .before .before .before .below .ensures) (c .before .before .before .before .before .before .before .before .before .back .ensures .0) (c .before .before .before .before .before .before .before .before .before .back .ensures .1) (c .before .before .before .both .ensures) (c .before .before .either .ensures)
+      (c .before .down .ensures) (c .either2 .ensures) (c .before .before .before .before .before .before .before .before .below2 .ensures) (g .0),
+      g .1,
+    )
+
+pub freed-spec : {M : Type 1} → statement M
+freed-spec =
+    tie.close
+    (tie.spec
+    is-empty-requires
+    returns
+    first-requires
+    add-between
+    add-between-2
+    between-requires
+    add-below
+    below-requires
+    back-requires
+    below-requires-2
+    give-requires
+    both-requires
+    either-requires
+    down-requires
+    either-requires-2
+    same-length
+    returns-2)

@@ -1,0 +1,81 @@
+-- `order_texts::narrow_side`: the layout, then the passes over it. Assumes nothing.
+use native.Mathlib.Omega.{arith}
+use mathlib.Core.Path.{ap, _∙_}
+use Prim.Native.Nat.{ℕ}
+use lib.ListN.{length, length-replicate}
+use Rattle.shapes.proofs.All.{all-of}
+use Rattle.shapes.proofs.Lent.{small-bases}
+use Rattle.order_texts.proofs.Answers.{one-side}
+use borrow.Author.Needs.{needs}
+use Rattle.order_texts.proofs.narrow_side.Statement.{statement}
+use Rattle.order_texts.proofs.narrow_side.Tie as tie
+
+blank-requires : tie.Need-blank-requires
+blank-requires c κs = search needs
+
+blank-requires-2 : tie.Need-blank-requires-2
+blank-requires-2 c κs = search needs
+
+blank-requires-3 : tie.Need-blank-requires-3
+blank-requires-3 c κs = search needs
+
+slice-aggregate-lay : tie.Need-slice-aggregate-lay
+slice-aggregate-lay c = search needs
+
+slice-aggregate-lay-2 : tie.Need-slice-aggregate-lay-2
+slice-aggregate-lay-2 c = search needs
+
+slice-aggregate-lay-3 : tie.Need-slice-aggregate-lay-3
+slice-aggregate-lay-3 c = search needs
+
+lay-requires : tie.Need-lay-requires
+lay-requires c κs = search needs
+
+slice-aggregate-narrow-laid : tie.Need-slice-aggregate-narrow-laid
+slice-aggregate-narrow-laid c = search needs
+
+slice-aggregate-narrow-laid-2 : tie.Need-slice-aggregate-narrow-laid-2
+slice-aggregate-narrow-laid-2 c = search needs
+
+slice-aggregate-narrow-laid-3 : tie.Need-slice-aggregate-narrow-laid-3
+slice-aggregate-narrow-laid-3 c = search needs
+
+narrow-laid-requires : tie.Need-narrow-laid-requires
+narrow-laid-requires c κs =
+    let s = c .before .before .before .before .before .before .before .before .before .before .before .before .before .before .before .before .before in
+    let p = s .pre .1 .1 in
+    let few = p .1 in
+    let whole = s .pre .0 .blocks in
+    let l = c .before .before .before .before .before .before .before .lay .ensures in
+    let k = c .before .before .before .before .before .before .before .lay .kept in
+    let z = k .1 .0 ∙ ap length (c .before .before .before .before .before .before .before .before .before .before .before .before .before .blank .ensures) ∙ length-replicate {A = ℕ} 256 0 in
+    let e = k .1 .1 .0 ∙ ap length (c .before .before .before .before .before .before .before .before .before .before .before .before .blank2 .ensures) ∙ length-replicate {A = ℕ} 256 0 in
+    let w = k .1 .1 .1 .0 ∙ ap length (c .before .before .before .before .before .before .before .before .before .before .before .blank3 .ensures) ∙ length-replicate {A = ℕ} 256 0 in
+    (
+      (record { whole = s .pre .0; lay = l .1; zones-long = omega arith; ends-long = omega arith; slots-long = omega arith }, l .0),
+      ((s .pre .1 .0, p .0), (p .1, p .2)),
+    )
+
+same-length : tie.Need-same-length
+same-length c = search needs
+
+returns : tie.Need-returns
+returns c = one-side _ _ _ (small-bases _ (all-of (c .before .before .before .before .before .before .before .before .before .before .before .before .before .before .before .before .before .before .before .before .args .x .now) 0 (λ i h. c .before .before .before .before .before .before .before .before .before .before .before .before .before .before .before .before .before .before .before .shared-slice-known .given i .fits))) (c .before .before .narrow-laid .ensures)
+
+pub narrow-side-spec : {M : Type 1} → statement M
+narrow-side-spec =
+    tie.close
+    (tie.spec
+    blank-requires
+    blank-requires-2
+    blank-requires-3
+    slice-aggregate-lay
+    slice-aggregate-lay-2
+    slice-aggregate-lay-3
+    lay-requires
+    slice-aggregate-narrow-laid
+    slice-aggregate-narrow-laid-2
+    slice-aggregate-narrow-laid-3
+    narrow-laid-requires
+    same-length
+    returns)

@@ -1,0 +1,135 @@
+// One shape narrowed by what is on the right side of a fixed text.
+use extremes::Direction;
+use order_states::Gathered;
+use sets::Set;
+ghost use mathlib.Core.Path.{_≡_};
+ghost use Prim.Native.Nat.{_/_, _≤_};
+ghost use lib.ListN.{length, take, replicate};
+ghost use Rattle.sets.specs.Set.{setOf};
+ghost use Rattle.shapes.specs.Shape.{textOf, total, blockCount};
+ghost use Rattle.shapes.specs.Lent.{Whole, shapeOf};
+ghost use Rattle.rows.specs.Row.{rowIn, rowCount};
+ghost use Rattle.rows.specs.Steps.{InTurn};
+ghost use Rattle.order_sides.specs.Guide.{Kept};
+ghost use Rattle.order_guides.specs.Sides.{Side};
+ghost use Rattle.order_guides.specs.Guide.{Plain, guideOf};
+ghost use Rattle.order_rows.specs.Laid.{Laid};
+ghost use Rattle.order_texts.specs.Narrowed.{One};
+ghost use Rattle.order_texts.specs.Freed.{Freed};
+
+// A row to each of 64 blocks, blank.
+fn blank() -> [u64; 256]
+    ensures { λ r. ⌜ r ≡ replicate 256 0 ⌝ }
+{
+    [0u64; 256]
+}
+
+// A row to each of 251 numbers of matched characters, blank.
+fn blank_rows() -> [u64; 1004]
+    ensures { λ r. ⌜ r ≡ replicate 1004 0 ⌝ }
+{
+    [0u64; 1004]
+}
+
+// Where a run may end early, and where a character may be taken.
+struct Places {
+    quit: Set,
+    moved: Set,
+}
+
+// What was gathered, and all that is free after the first position where a text parts.
+fn freed(
+    zones: &[u64],
+    ends: &[u64],
+    slots: &[u64],
+    k: usize,
+    u: usize,
+    g: Gathered,
+    chars: &mut [u64],
+) -> Places
+    requires { ⌜ (k ≤ rowCount (now zones)) × (k ≤ rowCount (now ends)) × (k ≤ rowCount (now slots)) × (k ≤ rowCount (now chars)) ⌝ }
+    requires { ⌜ InTurn (rowIn (now zones)) (rowIn (now ends)) k ⌝ }
+    requires { ⌜ u ≤ 250 ⌝ }
+    ensures { λ r. ⌜ Freed (now (zones .entry)) (now (ends .entry)) (now (slots .entry)) k u g (now (chars .entry)) (now (chars .exit)) (setOf (r .quit)) (setOf (r .moved)) ⌝ }
+    ensures { λ _. ⌜ length (now (chars .exit)) ≡ length (now (chars .entry)) ⌝ }
+{
+    let quit = g.quit;
+    let moved = g.moved;
+    if sets::is_empty(g.parted) {
+        return Places {
+            quit: quit,
+            moved: moved,
+        };
+    }
+    let free = sets::between(sets::first(g.parted) + 1, u + 1);
+    let all = row_steps::back(zones, ends, k, sets::below(u + 1));
+    row_steps::give(free, sets::below(256), slots, chars, k);
+    Places {
+        quit: sets::either(quit, sets::both(free, all.quit)),
+        moved: sets::either(moved, sets::down(free)),
+    }
+}
+
+// Narrows a shape that is laid out, u past all its blocks.
+fn narrow_laid(
+    d: Direction,
+    strict: bool,
+    x: &[u64],
+    zones: &[u64],
+    ends: &[u64],
+    slots: &[u64],
+    u: usize,
+    text: &[u8],
+    m: usize,
+    out: &mut [u64],
+) -> bool
+    requires { ⌜ Laid (now x) (now zones) (now ends) (now slots) × (u ≡ total (shapeOf (now x))) ⌝ }
+    requires { ⌜ Plain (now text) m × (m ≤ 250) ⌝ }
+    requires { ⌜ (blockCount (now x) ≤ 64) × (length (now x) ≤ length (now out)) ⌝ }
+    ensures { λ r. ⌜ One (Kept (guideOf d strict (take m (now (text .entry))))) (now (x .entry)) (now (out .entry)) (now (out .exit)) r ⌝ }
+{
+    let mut rows = blank_rows();
+    let n = order_forth::forth(x, zones, ends, slots, text, m, &mut rows);
+    let mut chars = blank();
+    let g = order_back::gather(
+        d,
+        strict,
+        x,
+        zones,
+        ends,
+        slots,
+        u,
+        text,
+        m,
+        &rows,
+        n,
+        &mut chars,
+    );
+    if !sets::has(g.clear, 0) {
+        return false;
+    }
+    let p = freed(zones, ends, slots, x.len() / shapes::SIZE, u, g, &mut chars);
+    row_blocks::narrow_blocks(x, &chars, p.quit, p.moved, out);
+    true
+}
+
+// Narrows a shape of at most 64 blocks by the first m bytes of a text: at most them (least) or at least them (greatest), before or after them if strict.
+pub fn narrow_side(
+    d: Direction,
+    strict: bool,
+    x: &[u64],
+    text: &[u8],
+    m: usize,
+    out: &mut [u64],
+) -> bool
+    requires { ⌜ Whole (now x) ⌝ }
+    requires { ⌜ Plain (now text) m ⌝ }
+    requires { ⌜ (m ≤ 250) × (blockCount (now x) ≤ 64) × (length (now x) ≤ length (now out)) ⌝ }
+    ensures { λ r. ⌜ One (λ f. Side d strict (textOf f) (take m (now (text .entry)))) (now (x .entry)) (now (out .entry)) (now (out .exit)) r ⌝ }
+{
+    let mut zones = blank();
+    let mut ends = blank();
+    let mut slots = blank();
+    let u = row_lay::lay(x, &mut zones, &mut ends, &mut slots);
+    narrow_laid(d, strict, x, &zones, &ends, &slots, u, text, m, out)
+}

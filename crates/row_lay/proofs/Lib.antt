@@ -1,0 +1,2 @@
+-- The laws of a shape laid out in rows.
+pub mod Laid

@@ -1,0 +1,2 @@
+-- A shape laid out in rows.
+pub mod Lay

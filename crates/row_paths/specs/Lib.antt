@@ -1,0 +1,2 @@
+-- What rows of positions tell of two shapes that are read together.
+pub mod Rows

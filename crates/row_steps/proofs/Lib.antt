@@ -1,0 +1,2 @@
+-- The laws of passes over steps and over pairs of sets.
+pub mod Steps

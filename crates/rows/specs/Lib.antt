@@ -1,0 +1,3 @@
+-- Rows of bits, and what steps between their numbers lead to.
+pub mod Row
+pub mod Steps

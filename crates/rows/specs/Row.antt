@@ -1,0 +1,26 @@
+-- A row is a set of positions in four words, as `sets` reads them; rows stand one after the other.
+use mathlib.Core.Path.{_≡_}
+use mathlib.Core.List.{List, [], _∷_}
+use Prim.Native.Nat.{ℕ, _+_, _*_, _/_}
+use lib.ListN.{length, getD}
+use Rattle.bases.specs.Base.{baseOf}
+
+-- So many words are a row; so many rows are some words. A table has a row for each position from 0 to 250.
+abbrev pub rowSize : ℕ
+rowSize = 4
+
+abbrev pub rowCount : List ℕ → ℕ
+rowCount xs = length xs / rowSize
+
+abbrev pub tableSize : ℕ
+tableSize = 1004
+
+-- Row j.
+abbrev pub rowIn : List ℕ → ℕ → ℕ
+rowIn xs j = baseOf (getD xs (j * rowSize) 0 ∷ (getD xs (j * rowSize + 1) 0 ∷ (getD xs (j * rowSize + 2) 0 ∷ (getD xs (j * rowSize + 3) 0 ∷ []))))
+
+-- Row j is set to s, and no other row is changed.
+pub record PutRow (w : List ℕ) (j s : ℕ) (w′ : List ℕ) : Type 0 where
+  pub long : length w′ ≡ length w
+  pub here : rowIn w′ j ≡ s
+  pub kept : (i : ℕ) → (i ≡ j → ⊥) → rowIn w′ i ≡ rowIn w i

@@ -1,0 +1,70 @@
+-- `shapes::put_block`: four numbers are set; a base of characters below 128 is its first two words. Assumes nothing.
+use native.Mathlib.Omega.{arith}
+use lib.ListN.{length-set}
+use Rattle.shapes.proofs.Put.{put-carried}
+use borrow.Author.Needs.{needs}
+use Rattle.shapes.proofs.put_block.Statement.{statement}
+use Rattle.shapes.proofs.put_block.Tie as tie
+use Rattle.shapes.proofs.put_block.Reads as reads
+use Rattle.shapes.proofs.put_block.Lts as lts
+
+mul-at : tie.Need-mul-at
+mul-at c = search needs
+
+mul-out : tie.Need-mul-out
+mul-out c = search needs
+
+slice-write-out : tie.Need-slice-write-out
+slice-write-out c = search needs
+
+add-out : tie.Need-add-out
+add-out c = search needs
+
+mul-out-2 : tie.Need-mul-out-2
+mul-out-2 c = search needs
+
+slice-write-out-2 : tie.Need-slice-write-out-2
+slice-write-out-2 c = simp length-set (omega arith)
+
+add-out-2 : tie.Need-add-out-2
+add-out-2 c = search needs
+
+mul-out-3 : tie.Need-mul-out-3
+mul-out-3 c = search needs
+
+slice-write-out-3 : tie.Need-slice-write-out-3
+slice-write-out-3 c = simp length-set (omega arith)
+
+add-out-3 : tie.Need-add-out-3
+add-out-3 c = search needs
+
+mul-out-4 : tie.Need-mul-out-4
+mul-out-4 c = search needs
+
+slice-write-out-4 : tie.Need-slice-write-out-4
+slice-write-out-4 c = simp length-set (omega arith)
+
+same-length : tie.Need-same-length
+same-length c = search needs
+
+returns : tie.Need-returns
+returns c = put-carried _ _ _ _ _ (search needs) (c .pre .1) (c .pre .0)
+
+pub put-block-spec : {M : Type 1} → statement M
+put-block-spec =
+    tie.close
+    (tie.spec
+    mul-at
+    mul-out
+    slice-write-out
+    add-out
+    mul-out-2
+    slice-write-out-2
+    add-out-2
+    mul-out-3
+    slice-write-out-3
+    add-out-3
+    mul-out-4
+    slice-write-out-4
+    same-length
+    returns)

@@ -1,3 +1,0 @@
--- The laws of the blocks read from the table.
-pub mod Reading
-pub mod Blocks

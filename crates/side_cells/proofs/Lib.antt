@@ -1,2 +1,0 @@
--- The laws of what is read from the table.
-pub mod Cells

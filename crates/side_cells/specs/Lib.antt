@@ -1,2 +1,0 @@
--- What is read from the table of a shape and a fixed text.
-pub mod Cells

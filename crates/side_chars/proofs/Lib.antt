@@ -1,2 +1,0 @@
--- The laws of the characters read from the table.
-pub mod Chars

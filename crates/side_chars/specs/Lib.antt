@@ -1,2 +1,0 @@
--- The characters read from the table.
-pub mod Chars

@@ -1,3 +1,0 @@
--- The laws of narrowing one shape.
-pub mod Ready
-pub mod Hulls

@@ -1,2 +1,0 @@
--- One shape narrowed by what is on the right side of a fixed text.
-pub mod Narrowed

@@ -1,2 +1,0 @@
--- The laws of the lengths.
-pub mod Lengths

@@ -1,2 +1,0 @@
--- The lengths of a run, read from the table.
-pub mod Lengths

@@ -1,2 +1,0 @@
--- The laws of the table.
-pub mod Cells

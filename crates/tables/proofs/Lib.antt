@@ -1,3 +1,0 @@
--- The laws of the table.
-pub mod Cells
-pub mod Finish

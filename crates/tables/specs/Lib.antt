@@ -1,2 +1,0 @@
--- A table over the positions of two shapes.
-pub mod Table
