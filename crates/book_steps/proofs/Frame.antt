@@ -21,7 +21,7 @@ use Rattle.texts.specs.Kind.{relationOf}
 use Rattle.rules.specs.declared.Rule.{Rule}
 use Rattle.books.specs.Rules.{RightRule, asks}
 use Rattle.books.proofs.Sums.{text-before, text-within}
-use Rattle.laying.specs.Laid.{replaced}
+use Rattle.book_laying.specs.Laid.{replaced}
 
 -- of a rule's two texts the first named lies before the second, or after it
 pub either-side : (counts : List ℕ) (t : Rule) → RightRule counts t → {P : Type 0} → (firstOf counts (t .a) + countOf counts (t .a) ≤ firstOf counts (t .b) → P)

@@ -16,8 +16,8 @@ use Rattle.hulls.specs.Hull.{Hull}
 use Rattle.hulls.proofs.Hull.{hull-within, hull-sound}
 use Rattle.hulls.proofs.Small.{within-small}
 use Rattle.pairs.specs.Narrow.{Narrows}
-use Rattle.laying.specs.Laid.{replaced}
-use Rattle.laying.proofs.Shapes.{words-bounded, replaced-bounded}
+use Rattle.book_laying.specs.Laid.{replaced}
+use Rattle.book_laying.proofs.Shapes.{words-bounded, replaced-bounded}
 use Rattle.books.specs.Counts.{countOf, firstOf, shapeIn}
 use Rattle.books.specs.Rules.{RightRule, asks}
 use Rattle.books.specs.Code.{numbersIn}

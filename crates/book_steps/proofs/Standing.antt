@@ -21,11 +21,11 @@ use Rattle.rules.specs.declared.Rule.{Rule}
 use Rattle.books.specs.Rules.{Names, RightRule, asks}
 use Rattle.books.specs.Refused.{BookAccepted}
 use Rattle.books.specs.Code.{numbersIn}
-use Rattle.laying.specs.Laid.{replaced}
+use Rattle.book_laying.specs.Laid.{replaced}
 use Rattle.book_steps.specs.Step.{Standing}
 use Rattle.books.proofs.Sums.{sum-all, sum-small, text-within, texts-sound}
-use Rattle.laying.proofs.Laid.{replaced-length, read-there, read-before, read-after, laid-back}
-use Rattle.laying.proofs.Shapes.{shape-part, shape-replaced, same-numbers}
+use Rattle.book_laying.proofs.Laid.{replaced-length, read-there, read-before, read-after, laid-back}
+use Rattle.book_laying.proofs.Shapes.{shape-part, shape-replaced, same-numbers}
 use Rattle.book_steps.proofs.Frame.{either-side, rule-narrows, rule-none}
 
 -- ---- a part of narrower blocks is narrower

@@ -8,7 +8,7 @@ use lib.ListN.{length, take, drop}
 use Rattle.bases.specs.Tells.{Tells}
 use Rattle.pairs.specs.Narrow.{NarrowAnswer}
 use Rattle.shapes.specs.Lent.{Accepted}
-use Rattle.laying.specs.Laid.{replaced}
+use Rattle.book_laying.specs.Laid.{replaced}
 use Rattle.books.specs.declared.Place.{Place}
 use Rattle.books.specs.Counts.{countOf, firstOf}
 use Rattle.books.specs.Code.{PlaceOf, numbersIn}

@@ -7,7 +7,7 @@ ghost use Rattle.bases.specs.Tells.{Tells};
 ghost use Rattle.rules.specs.Rule.{ruleCount};
 ghost use Rattle.texts.specs.Kind.{relationOf};
 ghost use Rattle.pairs.specs.Narrow.{NarrowAnswer};
-ghost use Rattle.laying.specs.Laid.{replaced};
+ghost use Rattle.book_laying.specs.Laid.{replaced};
 ghost use Rattle.shapes.specs.All.{All};
 ghost use Rattle.books.specs.Counts.{sumOf, RightCount, countOf, firstOf};
 ghost use Rattle.books.specs.Code.{numbersIn};
@@ -23,13 +23,7 @@ pub enum Applied {
 }
 
 // Narrows the two texts of a rule, into the first numbers of x and y.
-fn narrow_rule(
-    counts: &[u64],
-    numbers: &[u64],
-    rule: Rule,
-    x: &mut [u64],
-    y: &mut [u64],
-) -> bool
+fn narrow_rule(counts: &[u64], numbers: &[u64], rule: Rule, x: &mut [u64], y: &mut [u64]) -> bool
     requires { ⌜ Texts (now counts) (now numbers) ⌝ }
     requires { ⌜ RightRule (now counts) rule ⌝ }
     requires { ⌜ 128 ≤ length (now x) ⌝ }
@@ -66,10 +60,10 @@ fn lay_text(counts: &[u64], numbers: &mut [u64], k: u64, x: &[u64]) -> bool
     let from = place.from;
     let to = place.to;
     let n = to - from;
-    if laying::same_numbers(&numbers[from..to], &x[..n]) {
+    if book_laying::same_numbers(&numbers[from..to], &x[..n]) {
         return true;
     }
-    laying::lay(numbers, from, &x[..n]);
+    book_laying::lay(numbers, from, &x[..n]);
     false
 }
 

@@ -13,7 +13,7 @@ use Rattle.extremes.specs.declared.Direction.the-variants.{Least, Greatest}
 use Rattle.extremes.specs.Extreme.{ExtremePromise}
 use Rattle.file_runs.specs.Promise.{FilePromise}
 use Rattle.fitting.specs.Fit.{FitPromise}
-use Rattle.pair_calls.specs.Sweep.{SweepPromise}
+use Rattle.sweep_calls.specs.Sweep.{SweepPromise}
 use Rattle.pairs.specs.Narrow.{NarrowPromise}
 use Rattle.shapes.specs.Lent.{ShapeChecked}
 use Rattle.texts.specs.Order.{AtMost, Before}

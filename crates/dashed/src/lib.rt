@@ -48,7 +48,7 @@ pub fn greatest_text(shape: &[u64], out: &mut [u8]) -> Written
 pub fn sweep(x: &[u64], y: &[u64], out: &mut [u64]) -> Swept
     ensures { λ r. ⌜ Sweep (now (x .entry)) (now (y .entry)) (now (out .entry)) (now (out .exit)) r ⌝ }
 {
-    pair_calls::sweep(x, y, out)
+    sweep_calls::sweep(x, y, out)
 }
 
 // Exact narrowing under equality: none exactly if no filling of x and filling of y have one text; otherwise each block of the outputs keeps exactly the

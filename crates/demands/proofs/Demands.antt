@@ -15,7 +15,7 @@ use Rattle.shapes.specs.Shape.{Block, Fits}
 use Rattle.shapes.specs.Lent.{shapeOf}
 use Rattle.texts.specs.Order.{AtMost, Before}
 use Rattle.pairs.specs.Narrow.{NarrowPromise}
-use Rattle.pair_calls.proofs.Sweeping.{sweep-determined}
+use Rattle.sweep_calls.proofs.Sweeping.{sweep-determined}
 use Rattle.books.specs.Refused.{BookAccepted}
 use Rattle.book_runs.proofs.Determined.{run-determined}
 use Rattle.book_steps.proofs.Standing.{standing-first}

@@ -21,8 +21,8 @@ use Rattle.pairs.specs.Pair.{PairAccepted, Room, NarrowRefused}
 use Rattle.pairs.specs.Narrow.{NarrowPromise}
 use Rattle.pairs.proofs.Pair.{narrow-one, narrow-not}
 use Rattle.pairs.proofs.Determined.{Outcome, narrow-determined}
-use Rattle.pair_calls.specs.Sweep.{SweepRefused}
-use Rattle.pair_calls.proofs.Sweeping.{one-refusal, not-due}
+use Rattle.sweep_calls.specs.Sweep.{SweepRefused}
+use Rattle.sweep_calls.proofs.Sweeping.{one-refusal, not-due}
 use Rattle.books.specs.Refused.{BookAccepted, BookRefused}
 use Rattle.books.proofs.Refused.{book-one, book-not}
 use Rattle.file_runs.specs.Promise.{RunRefused}

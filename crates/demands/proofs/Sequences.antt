@@ -22,7 +22,7 @@ use Rattle.book_runs.specs.Walk.{Walk, RunStable, RunNone}
 use Rattle.book_runs.specs.Walk.Walk.{stops, keeps, changes, round as again, rests as stays}
 use Rattle.book_steps.specs.Step.{Standing}
 use Rattle.book_runs.proofs.Walk.{Kept, one-kept, among}
-use Rattle.laying.proofs.Shapes.{same-numbers}
+use Rattle.book_laying.proofs.Shapes.{same-numbers}
 use Rattle.book_steps.proofs.Standing.{standing-first}
 use Rattle.demands.specs.Calls.{Call, after, LeftAlone, Ending, none, numbers, Calls, says-none, rests, goes-on, InOrder, ends, next, round, WidestLeft}
 use Rattle.demands.proofs.Calls.{call-hull, call-stands, call-words, call-none, leaves-hull, none-call, hull-call, hull-after, hull-leaves}

@@ -15,7 +15,7 @@ use Rattle.rules.specs.Rule.{ruleAt, ruleCount}
 use Rattle.books.specs.Counts.{countOf, firstOf}
 use Rattle.books.specs.Rules.{Names}
 use Rattle.books.specs.Code.{numbersIn}
-use Rattle.laying.specs.Laid.{replaced}
+use Rattle.book_laying.specs.Laid.{replaced}
 use Rattle.book_steps.specs.Step.{Standing}
 use Rattle.dashed.specs.Promises.{NarrowEqual, NarrowAtMost, NarrowBefore}
 

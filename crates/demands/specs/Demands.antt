@@ -19,14 +19,14 @@ use Rattle.texts.specs.Order.{AtMost, Before}
 use Rattle.hulls.specs.Hull.{Tight}
 use Rattle.hulls.specs.Book.{Within, Stable}
 use Rattle.pairs.specs.Pair.{PairAccepted, Room, NarrowRefused}
-use Rattle.pair_calls.specs.Sweep.{SweepRefused}
+use Rattle.sweep_calls.specs.Sweep.{SweepRefused}
 use Rattle.sweep_steps.specs.Steps.{sweepOf}
 use Rattle.sweeps.specs.Read.{sweptOf, outputOf}
 use Rattle.rules.specs.Rule.{ruleCount, numbersOfAll}
 use Rattle.books.specs.Rules.{ruleOf, AllIn}
 use Rattle.books.specs.Refused.{BookAccepted, BookRefused}
 use Rattle.book_steps.specs.Step.{Standing}
-use Rattle.book_lines.specs.Book.{Book}
+use Rattle.file_lines.specs.Book.{Book}
 use Rattle.files.specs.Departs.{FileAccepted}
 use Rattle.file_runs.specs.Promise.{RunRefused}
 use Rattle.dashed.specs.Promises.{CheckShape, FitsShape, Earlier, LeastText, GreatestText, Sweep, NarrowEqual, NarrowAtMost, NarrowBefore, RunBook, RunFile}

@@ -93,10 +93,13 @@ module _ (x y : List ℕ) {z e s mines rows : List ℕ} {last : ℕ} (lay : Lay 
     where
       X : ℕ → Block
       X = slotAt (shapeOf x)
+
       Y : ℕ → Block
       Y = slotAt (shapeOf y)
+
       U : ℕ
       U = total (shapeOf x)
+
       W : ℕ
       W = total (shapeOf y)
 

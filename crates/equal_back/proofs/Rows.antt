@@ -23,9 +23,11 @@ module _ {Z E : ℕ → ℕ} {k mine p : ℕ} {b : Block} where
       → Whenever Z E k mine p b (RowBack f stop o p b got r) → Whenever Z E k mine p b (RowsBack rows stop o p b g r)
   rows-more rows n {o} {f} {stop} g got r d l e w v = record {
     holds = λ X Y U W z i fits m row x.
-        let t = w .holds X Y U W z i fits m row x in
-        (t .0, v .holds X Y U W z i fits m l (subst (λ (q : ℕ). Exactly q (λ j. Path X Y (p + o) j 0 0)) (sym e) (row o l)) (t .0)
-        (subst (λ (q : ℕ). GatheredAt X Y U W q (p + b .upper) got) (let a : p + n ≡ p + o + 1 = omega arith in a) (t .1)));
+        let t = w .holds X Y U W z i fits m row x in (
+          t .0,
+          v .holds X Y U W z i fits m l (subst (λ (q : ℕ). Exactly q (λ j. Path X Y (p + o) j 0 0)) (sym e) (row o l)) (t .0)
+              (subst (λ (q : ℕ). GatheredAt X Y U W q (p + b .upper) got) (let a : p + n ≡ p + o + 1 = omega arith in a) (t .1)),
+        );
   }
 
   pub rows-end : (rows : List ℕ) {o stop : ℕ} (g r : Gathered) → o ≡ 0 → Whenever Z E k mine p b (RowsBack rows stop o p b g r) → Whenever Z E k mine p b (BlockBack rows p b g r)

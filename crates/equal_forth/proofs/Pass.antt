@@ -23,7 +23,7 @@ use Rattle.row_paths.specs.Rows.{Zones, BlockIn, Entered, start, ended, taken}
 use Rattle.row_paths.proofs.Reached.{reached-row}
 use Rattle.row_paths.proofs.Chars.{SlotRows}
 use Rattle.row_paths.proofs.Shapes.{free-within, block-in, zones-of, slot-rows}
-use Rattle.equal_forth.specs.Forth.{BlockRows, Follows, Before, PassTo, Pass}
+use Rattle.equal_forth.specs.Forth.{BlockRows, Follows, RowsKept, PassTo, Pass}
 
 -- ---- a shape's blocks, as numbers and as a list
 
@@ -86,7 +86,7 @@ pass-none {x} {y} v = record {
 
 pub pass-more : {x y mines mines′ rows rows′ : List ℕ} {Z E : ℕ → ℕ} {k i p s r mine : ℕ} {b : Block} → i < length x / 4 → b ≡ blockAt x i → Zones (slotAt (shapeOf y)) Z E k
     → Exactly mine (λ q. Meets (b .base) (slotAt (shapeOf y) q .base)) → PassTo x y i p mines rows s → PutRow mines i mine mines′
-    → Follows Z E k mine p b s (λ X Y. BlockRows X Y p b rows′ r) → Before p rows rows′ → PassTo x y (i + 1) (p + b .upper) mines′ rows′ r
+    → Follows Z E k mine p b s (λ X Y. BlockRows X Y p b rows′ r) → RowsKept p rows rows′ → PassTo x y (i + 1) (p + b .upper) mines′ rows′ r
 pass-more {x} {y} {mines} {mines′} {rows} {rows′} {i = i} {p = p} {s = s} {mine = mine} {b = b} l d z m t u f w =
     let got : BlockRows (slotAt (shapeOf x)) (slotAt (shapeOf y)) p b rows′ _ = f .holds (slotAt (shapeOf x)) (slotAt (shapeOf y)) z (block-at x i p l (t .place) d) m (t .enter) in
     record {

@@ -20,7 +20,7 @@ use Rattle.rows.specs.Steps.{Leads}
 use Rattle.row_paths.specs.Rows.{Zones, BlockIn, Entered, start, ended, taken, Comes, Stops}
 use Rattle.row_paths.proofs.Reached.{reached-row}
 use Rattle.row_paths.proofs.Forth.{enter-within, enter-next, comes-none, between-none, comes-more, between-more, between-same}
-use Rattle.equal_forth.specs.Forth.{RowsTo, BlockRows, Follows, Before, PassTo}
+use Rattle.equal_forth.specs.Forth.{RowsTo, BlockRows, Follows, RowsKept, PassTo}
 
 -- ---- one block
 
@@ -55,8 +55,8 @@ rows-block k t e = record { row = t .row; next-is = enter-next k e (t .enter-is)
 
 -- ---- rows before p
 
-pub before-none : {p : ℕ} (w : List ℕ) → Before p w w
+pub before-none : {p : ℕ} (w : List ℕ) → RowsKept p w w
 before-none w = record { long = refl; kept = λ i l. refl }
 
-pub before-more : {p q s : ℕ} {w w₁ w₂ : List ℕ} → p ≤ q → Before p w w₁ → PutRow w₁ q s w₂ → Before p w w₂
+pub before-more : {p q s : ℕ} {w w₁ w₂ : List ℕ} → p ≤ q → RowsKept p w w₁ → PutRow w₁ q s w₂ → RowsKept p w w₂
 before-more l f u = record { long = u .long ∙ f .long; kept = λ i h. u .kept i (λ z. omega arith) ∙ f .kept i h }

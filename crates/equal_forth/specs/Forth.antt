@@ -27,7 +27,7 @@ pub record Follows (Z E : ℕ → ℕ) (k mine p : ℕ) (b : Block) (s : ℕ) (P
   pub holds : (X Y : ℕ → Block) → Zones Y Z E k → BlockIn X p b → Exactly mine (λ q. Meets (b .base) (Y q .base)) → Exactly s (Entered X Y p) → P X Y
 
 -- Rows before p stay.
-pub record Before (p : ℕ) (w w′ : List ℕ) : Type 0 where
+pub record RowsKept (p : ℕ) (w w′ : List ℕ) : Type 0 where
   pub long : length w′ ≡ length w
   pub kept : (i : ℕ) → i < p → rowIn w′ i ≡ rowIn w i
 

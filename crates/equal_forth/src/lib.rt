@@ -11,7 +11,7 @@ ghost use Rattle.shapes.specs.Lent.{Whole, meant, shapeOf};
 ghost use Rattle.rows.specs.Row.{rowIn, rowCount, tableSize};
 ghost use Rattle.rows.specs.Steps.{InTurn};
 ghost use Rattle.row_lay.specs.Lay.{Lay};
-ghost use Rattle.equal_forth.specs.Forth.{BlockRows, Follows, Before, Pass};
+ghost use Rattle.equal_forth.specs.Forth.{BlockRows, Follows, RowsKept, Pass};
 
 // Adds a set where it counts.
 pub fn with(s: Set, t: Set, on: bool) -> Set
@@ -39,7 +39,7 @@ fn forth_block(
     requires { ⌜ InTurn (rowIn (now zones)) (rowIn (now ends)) k ⌝ }
     requires { ⌜ (p + b .upper ≤ 250) × (length (now rows) ≡ tableSize) ⌝ }
     ensures { λ r. ⌜ Follows (rowIn (now (zones .entry))) (rowIn (now (ends .entry))) k (setOf mine) p (meant b) (setOf s) (λ X Y. BlockRows X Y p (meant b) (now (rows .exit)) (setOf r)) ⌝ }
-    ensures { λ _. ⌜ Before p (now (rows .entry)) (now (rows .exit)) ⌝ }
+    ensures { λ _. ⌜ RowsKept p (now (rows .entry)) (now (rows .exit)) ⌝ }
 {
     let upper = b.upper as usize;
     let mut enter = s;

@@ -40,11 +40,10 @@ module _ {x y : List ℕ} (wx : Whole x) (wy : Whole y) (p : Joined x y) where
   pub lengths : {quit moved : ℕ} {chars : List ℕ} → SideTold x y quit moved chars → SomeLength quit moved x (length x / 4)
   lengths {quit} {moved} t i h =
       let l : i < length (shapeOf x) = let e = shape-length x in omega arith in
-      let s = some-first (shapeOf x) (shapeOf y) (wx .sound) (wy .sound) p i l in
-      (
+      let s = some-first (shapeOf x) (shapeOf y) (wx .sound) (wy .sound) p i l in (
         s .0,
         subst (λ (b : Block). LengthBy quit moved (total (take i (shapeOf x))) b (s .0)) (shape-at x i noBlock h)
-        (some-length (block-in (shapeOf x) i l) (bounded (shapeOf y)) (all-at noBlock (wx .sound) i l .ordered) (t .quits) (t .moves) (s .1)),
+            (some-length (block-in (shapeOf x) i l) (bounded (shapeOf y)) (all-at noBlock (wx .sound) i l .ordered) (t .quits) (t .moves) (s .1)),
       )
 
   pub side-collected : {quit moved : ℕ} {chars o o′ : List ℕ} (room : length x ≤ length o) → SideTold x y quit moved chars → (s : ToldTo chars quit moved x (length x / 4) o o′) → (i : ℕ) → i < length (shapeOf x)

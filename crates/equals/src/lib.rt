@@ -79,15 +79,7 @@ pub fn narrow_equal(x: &[u64], y: &[u64], out_x: &mut [u64], out_y: &mut [u64]) 
     let m = row_lay::lay(y, &mut zones, &mut ends, &mut slots);
     let mut mines = blank();
     let mut rows = blank_rows();
-    let last = equal_forth::forth(
-        x,
-        y,
-        &zones,
-        &ends,
-        &slots,
-        &mut mines,
-        &mut rows,
-    );
+    let last = equal_forth::forth(x, y, &zones, &ends, &slots, &mut mines, &mut rows);
     if !sets::has(last, m) {
         return false;
     }

@@ -12,7 +12,7 @@ ghost use Rattle.bases.specs.Base.{Empty, codes};
 ghost use Rattle.sets.specs.Set.{setOf};
 ghost use Rattle.shapes.specs.Shape.{Sound, Small};
 ghost use Rattle.shapes.specs.Lent.{meant, Accepted};
-ghost use Rattle.extremes.specs.Steps.{charOf, goesFirst, countOf, onwards, taken, after};
+ghost use Rattle.extremes.specs.Steps.{charOf, goesFirst, takesOf, onwards, taken, after};
 ghost use Rattle.extremes.specs.Extreme.{TextWritten, ExtremePromise};
 ghost use Rattle.extremes.specs.Code.{charIn, runOf};
 
@@ -66,7 +66,7 @@ fn char_of(d: Direction, base: Set) -> u8
 
 // The count that a block takes, by whether its character goes first.
 fn count_of(first: bool, b: Block) -> u64
-    ensures { λ r. ⌜ r ≡ countOf first (meant b) ⌝ }
+    ensures { λ r. ⌜ r ≡ takesOf first (meant b) ⌝ }
 {
     if first {
         return b.upper;

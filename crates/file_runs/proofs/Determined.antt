@@ -11,11 +11,11 @@ use Rattle.answers.specs.declared.Written.the-variants.{Text, Refused}
 use Rattle.shapes.specs.Lent.{wordsOf}
 use Rattle.books.specs.Refused.{BookAccepted}
 use Rattle.books.proofs.Refused.{book-one, book-not}
-use Rattle.book_lines.specs.Book.{Book}
+use Rattle.file_lines.specs.Book.{Book}
 use Rattle.files.specs.Departs.{FileAccepted}
 use Rattle.files.proofs.Unique.{refused-one, not-both}
-use Rattle.reports.specs.Report.{Verdict, reportOf, Reported}
-use Rattle.reports.specs.Report.Verdict.{refused}
+use Rattle.file_reports.specs.Report.{Verdict, reportOf, Reported}
+use Rattle.file_reports.specs.Report.Verdict.{refused}
 use Rattle.rules.specs.Rule.{numbersOfAll}
 use Rattle.file_runs.specs.Ends.{FileEnds}
 use Rattle.file_runs.specs.Ends.FileEnds.{no-book as ends-no-book, wrong-book as ends-wrong-book, of-book as ends-of-book}

@@ -24,15 +24,15 @@ use Rattle.book_steps.proofs.Standing.{standing-first, few-blocks, blocks-sound
 use Rattle.books.proofs.Refused.{book-one, book-not}
 use Rattle.book_runs.proofs.Walk.{walk-one}
 use Rattle.book_runs.proofs.Determined.{same-shapes, not-none}
-use Rattle.book_lines.specs.Book.{Book, RightBlock}
+use Rattle.file_lines.specs.Book.{Book, RightBlock}
 use Rattle.files.specs.declared.Sizes.{Sizes}
 use Rattle.files.specs.Departs.{FileAccepted}
 use Rattle.files.specs.Promise.{BookRead}
 use Rattle.files.proofs.Ready.{ready}
 use Rattle.files.proofs.Unique.{accepted-one, refused-one, not-both}
-use Rattle.reports.proofs.Ready.{right-of-sound}
-use Rattle.reports.specs.Report.{Verdict}
-use Rattle.reports.specs.Report.Verdict.{stable, none as in-none, refused}
+use Rattle.file_reports.proofs.Ready.{right-of-sound}
+use Rattle.file_reports.specs.Report.{Verdict}
+use Rattle.file_reports.specs.Report.Verdict.{stable, none as in-none, refused}
 use Rattle.rules.specs.Rule.{rulesOf, numbersOfAll}
 use Rattle.file_runs.specs.Ends.{BookEnds, FileEnds}
 use Rattle.file_runs.specs.Ends.BookEnds.{rests as ends-rest, fails}

@@ -8,10 +8,10 @@ use Rattle.hulls.specs.Hull.{none, shapes}
 use Rattle.books.specs.Refused.{BookRefused, BookAccepted}
 use Rattle.book_runs.specs.Walk.{BookRun}
 use Rattle.rules.specs.Rule.{numbersOfAll}
-use Rattle.book_lines.specs.Book.{Book}
+use Rattle.file_lines.specs.Book.{Book}
 use Rattle.files.specs.Departs.{FileRefused, FileAccepted}
-use Rattle.reports.specs.Report.{Verdict}
-use Rattle.reports.specs.Report.Verdict.{stable, none as in-none, refused}
+use Rattle.file_reports.specs.Report.{Verdict}
+use Rattle.file_reports.specs.Report.Verdict.{stable, none as in-none, refused}
 
 -- How the run of an accepted book ends, by document 01's steps: with the final shapes, or in none.
 pub data BookEnds (counts blocks rules : List ℕ) : Verdict → Type 0 where

@@ -8,9 +8,9 @@ use Rattle.answers.specs.declared.Written.{Written}
 use Rattle.answers.specs.declared.Written.the-variants.{Text, Refused}
 use Rattle.shapes.specs.Lent.{wordsOf}
 use Rattle.books.specs.Refused.{BookRefused, BookAccepted}
-use Rattle.book_lines.specs.Book.{Book}
+use Rattle.file_lines.specs.Book.{Book}
 use Rattle.files.specs.Departs.{FileRefused, FileAccepted}
-use Rattle.reports.specs.Report.{Verdict, Reported}
+use Rattle.file_reports.specs.Report.{Verdict, Reported}
 use Rattle.rules.specs.Rule.{numbersOfAll}
 use Rattle.file_runs.specs.Ends.{BookEnds}
 

@@ -31,13 +31,13 @@ fn report_book(counts: &[u64], blocks: &mut [u64], rules: &[u64], report: &mut [
             if short {
                 return no_room;
             }
-            Written::Text(reports::write_none(m, report))
+            Written::Text(file_reports::write_none(m, report))
         }
         Ran::Stable(m) => {
             if short {
                 return no_room;
             }
-            Written::Text(reports::write_stable(counts, blocks, m, report))
+            Written::Text(file_reports::write_stable(counts, blocks, m, report))
         }
     }
 }

@@ -2,9 +2,9 @@
 use mathlib.Core.Path.{_≡_, refl}
 use mathlib.Core.List.{List, [], _∷_}
 use Prim.Native.Nat.{ℕ}
-use Rattle.numerals.specs.Digits.{glyph, digits, decimalBy, decimal}
+use Rattle.file_numerals.specs.Digits.{glyph, digits, decimalBy, decimal}
 use Rattle.shapes.specs.Shape.{Block}
-use Rattle.book_lines.specs.Book.{Book, headLine, twoNumbers, blockLine, ruleLine, linesOf, joined, writing}
+use Rattle.file_lines.specs.Book.{Book, headLine, twoNumbers, blockLine, ruleLine, linesOf, joined, writing}
 
 block : ℕ → ℕ → ℕ → Block
 block b l u = record { base = b; lower = l; upper = u }

@@ -7,13 +7,13 @@ use native.Mathlib.Omega.{arith}
 use lib.ListN.{length, take, drop}
 use Rattle.rules.specs.declared.Rule.{Rule}
 use Rattle.shapes.specs.Shape.{Block}
-use Rattle.numerals.specs.Digits.{decimal}
-use Rattle.book_lines.specs.Book.{Small, RightBlock, RightRule, textsWord, blocksWord, rulesWord, blockLine, ruleLine}
-use Rattle.sections.specs.declared.Item.the-variants.{Count as count-item, Block as block-item, Rule as rule-item}
-use Rattle.sections.specs.declared.Section.{Section}
-use Rattle.sections.specs.declared.Section.the-variants.{Read, Departs}
-use Rattle.sections.specs.Parts.{SectionIs, SectionRead}
-use Rattle.sections.proofs.Views.{count-view, block-view, rule-view, section-seen, counts-seen, blocks-seen, rules-seen}
+use Rattle.file_numerals.specs.Digits.{decimal}
+use Rattle.file_lines.specs.Book.{Writable, RightBlock, RuleInGrammar, textsWord, blocksWord, rulesWord, blockLine, ruleLine}
+use Rattle.file_sections.specs.declared.Item.the-variants.{Count as count-item, Block as block-item, Rule as rule-item}
+use Rattle.file_sections.specs.declared.Section.{Section}
+use Rattle.file_sections.specs.declared.Section.the-variants.{Read, Departs}
+use Rattle.file_sections.specs.Parts.{SectionIs, SectionRead}
+use Rattle.file_sections.proofs.Views.{count-view, block-view, rule-view, section-seen, counts-seen, blocks-seen, rules-seen}
 use Rattle.files.specs.Parts.{TextsSeen, BlocksSeen, RulesSeen}
 
 module _ (bytes out out′ : List ℕ) (long : length out′ ≡ length out) where
@@ -21,7 +21,7 @@ module _ (bytes out out′ : List ℕ) (long : length out′ ≡ length out) whe
   texts-seen (Read n m) h s =
       let few = s .0 .items .few in
       let seen = section-seen count-view (s .0) in
-      (subst (λ (xs : List ℕ). SectionIs textsWord 8 Small decimal bytes xs n m) (counts-seen n out′ (omega arith)) seen, subst (λ (k : ℕ). drop k out′ ≡ drop k out) (mul-one n) (s .1))
+      (subst (λ (xs : List ℕ). SectionIs textsWord 8 Writable decimal bytes xs n m) (counts-seen n out′ (omega arith)) seen, subst (λ (k : ℕ). drop k out′ ≡ drop k out) (mul-one n) (s .1))
   texts-seen (Departs i) h s = s
 
   pub blocks-section-seen : (r : Section) → 1024 ≤ length out → SectionRead block-item bytes out out′ r → BlocksSeen bytes out out′ r
@@ -35,5 +35,5 @@ module _ (bytes out out′ : List ℕ) (long : length out′ ≡ length out) whe
   rules-section-seen (Read n m) h s =
       let few = s .0 .items .few in
       let seen = section-seen rule-view (s .0) in
-      (subst (λ (xs : List Rule). SectionIs rulesWord 16 RightRule ruleLine bytes xs n m) (rules-seen n out′ (omega arith)) seen, s .1)
+      (subst (λ (xs : List Rule). SectionIs rulesWord 16 RuleInGrammar ruleLine bytes xs n m) (rules-seen n out′ (omega arith)) seen, s .1)
   rules-section-seen (Departs i) h s = s

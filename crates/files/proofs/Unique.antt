@@ -12,14 +12,14 @@ use Rattle.shapes.specs.All.{All}
 use Rattle.shapes.specs.All.All.{none, more}
 use Rattle.shapes.proofs.All.{all-append, all-left}
 use Rattle.shapes.specs.Shape.{Block}
-use Rattle.numerals.specs.Digits.{digits, decimal}
-use Rattle.numerals.proofs.Digits.{digits-length, digits-one, decimal-one}
+use Rattle.file_numerals.specs.Digits.{digits, decimal}
+use Rattle.file_numerals.proofs.Digits.{digits-length, digits-one, decimal-one}
 use Rattle.rules.specs.declared.Rule.{Rule}
-use Rattle.book_lines.specs.Book.{Book, InGrammar, Small, RightBlock, RightRule, textsWord, blocksWord, rulesWord, headLine, twoNumbers, blockLine, ruleLine, linesOf, joined, writing}
-use Rattle.book_lines.specs.Lines.{Without}
-use Rattle.book_lines.proofs.Split.{head-one, tail-one, parted}
-use Rattle.book_lines.proofs.Read.{without-decimal}
-use Rattle.sections.proofs.Newline.{without-rule, without-block, without-head, texts-without, blocks-without, rules-without}
+use Rattle.file_lines.specs.Book.{Book, InGrammar, Writable, RightBlock, RuleInGrammar, textsWord, blocksWord, rulesWord, headLine, twoNumbers, blockLine, ruleLine, linesOf, joined, writing}
+use Rattle.file_lines.specs.Lines.{Without}
+use Rattle.file_lines.proofs.Split.{head-one, tail-one, parted}
+use Rattle.file_lines.proofs.Read.{without-decimal}
+use Rattle.file_sections.proofs.Newline.{without-rule, without-block, without-head, texts-without, blocks-without, rules-without}
 use Rattle.files.specs.Departs.{Begins, Departs, FileRefused, FileAccepted}
 use Rattle.files.specs.Departs.FileRefused.{large, departs}
 
@@ -125,7 +125,7 @@ two-one a b c d e =
     let p = parted 32 (decimal a) (decimal c) (decimal b) (decimal d) (without-decimal 32 a (omega arith)) (without-decimal 32 c (omega arith)) e in
     (decimal-one a c (p .0), decimal-one b d (p .1))
 
-rule-one : (r s : Rule) → RightRule r → RightRule s → ruleLine r ≡ ruleLine s → r ≡ s
+rule-one : (r s : Rule) → RuleInGrammar r → RuleInGrammar s → ruleLine r ≡ ruleLine s → r ≡ s
 unfolding ruleLine
 rule-one r s h g e =
     let p = parted 32 (decimal (r .kind)) (decimal (s .kind)) (twoNumbers (r .a) (r .b)) (twoNumbers (s .a) (s .b)) (without-decimal 32 (r .kind) (omega arith)) (without-decimal 32 (s .kind) (omega arith)) e in
@@ -146,7 +146,7 @@ block-one b c h g e =
     let t = two-one (b .lower) (b .upper) (c .lower) (c .upper) (tail-one back) in
     λ i. record { base = base i; lower = t .0 i; upper = t .1 i }
 
-count-one : (n m : ℕ) → Small n → Small m → decimal n ≡ decimal m → n ≡ m
+count-one : (n m : ℕ) → Writable n → Writable m → decimal n ≡ decimal m → n ≡ m
 count-one n m h g e = decimal-one n m e
 
 -- as many lines of one kind, with something after them

@@ -5,16 +5,16 @@ use Prim.Native.Nat.{ℕ, _+_, _≤_, _<_}
 use native.Mathlib.Omega.{arith}
 use lib.ListN.{length, drop, length-drop, drop-of-length-le}
 use Rattle.shapes.specs.Shape.{Block}
-use Rattle.numerals.specs.Digits.{decimal}
+use Rattle.file_numerals.specs.Digits.{decimal}
 use Rattle.rules.specs.declared.Rule.{Rule}
-use Rattle.book_lines.specs.Book.{Small, RightBlock, RightRule, textsWord, blocksWord, rulesWord, headLine, blockLine, ruleLine, linesOf, joined, writing}
-use Rattle.book_lines.proofs.Joined.{joined-append}
-use Rattle.sections.specs.Steps.{DepartsFrom}
-use Rattle.sections.specs.Steps.State.{counts, blocks, rules}
-use Rattle.sections.proofs.Steps.{rules-kind}
+use Rattle.file_lines.specs.Book.{Writable, RightBlock, RuleInGrammar, textsWord, blocksWord, rulesWord, headLine, blockLine, ruleLine, linesOf, joined, writing}
+use Rattle.file_lines.proofs.Joined.{joined-append}
+use Rattle.file_sections.specs.Steps.{DepartsFrom}
+use Rattle.file_sections.specs.Steps.State.{counts, blocks, rules}
+use Rattle.file_sections.proofs.Steps.{rules-kind}
 use Rattle.files.specs.Departs.{FileAccepted}
-use Rattle.sections.specs.Parts.{Items, SectionIs}
-use Rattle.sections.proofs.Sections.{rules-head, after-section}
+use Rattle.file_sections.specs.Parts.{Items, SectionIs}
+use Rattle.file_sections.proofs.Sections.{rules-head, after-section}
 
 past : (rest : List ℕ) → 0 < length rest → DepartsFrom (rules 0) rest 0
 unfolding joined
@@ -30,12 +30,12 @@ past rest g =
     }
 
 -- anything after the last rule is a further line
-pub trailing : (bytes : List ℕ) (xs : List Rule) (n m : ℕ) → SectionIs rulesWord 16 RightRule ruleLine bytes xs n m → m < length bytes → DepartsFrom (blocks 0) bytes (n + 1)
+pub trailing : (bytes : List ℕ) (xs : List Rule) (n m : ℕ) → SectionIs rulesWord 16 RuleInGrammar ruleLine bytes xs n m → m < length bytes → DepartsFrom (blocks 0) bytes (n + 1)
 trailing bytes xs n m s h =
     subst (DepartsFrom (blocks 0) bytes) (let e : n + 0 + 1 ≡ n + 1 = omega arith in e) (after-section rules-head rules-kind bytes xs n m 0 s (past (drop m bytes) (let e = length-drop m bytes in omega arith)))
 
 -- nothing after the last rule
-pub at-end : (bytes : List ℕ) (xs : List Rule) (n m : ℕ) → SectionIs rulesWord 16 RightRule ruleLine bytes xs n m → length bytes ≤ m → bytes ≡ joined (headLine rulesWord n ∷ map ruleLine xs)
+pub at-end : (bytes : List ℕ) (xs : List Rule) (n m : ℕ) → SectionIs rulesWord 16 RuleInGrammar ruleLine bytes xs n m → length bytes ≤ m → bytes ≡ joined (headLine rulesWord n ∷ map ruleLine xs)
 at-end bytes xs n m s h =
     s .split ∙ ap (λ (t : List ℕ). joined (headLine rulesWord n ∷ map ruleLine xs) ++ t) (drop-of-length-le bytes h) ∙ append-nil (joined (headLine rulesWord n ∷ map ruleLine xs))
 
@@ -43,7 +43,7 @@ at-end bytes xs n m s h =
 pub joined-on : (bytes : List ℕ) (ls ms : List (List ℕ)) (m : ℕ) → bytes ≡ joined ls ++ drop m bytes → drop m bytes ≡ joined ms → bytes ≡ joined (ls ++ ms)
 joined-on bytes ls ms m e f = e ∙ ap (λ (t : List ℕ). joined ls ++ t) f ∙ sym (joined-append ls ms)
 
-pub book-is : (file cs : List ℕ) (bs : List Block) (rs : List Rule) (t n k m : ℕ) → SectionIs textsWord 8 Small decimal file cs t m → Items 256 RightBlock bs n → Items 16 RightRule rs k
+pub book-is : (file cs : List ℕ) (bs : List Block) (rs : List Rule) (t n k m : ℕ) → SectionIs textsWord 8 Writable decimal file cs t m → Items 256 RightBlock bs n → Items 16 RuleInGrammar rs k
     → drop m file ≡ joined (headLine blocksWord n ∷ (map blockLine bs ++ (headLine rulesWord k ∷ map ruleLine rs))) → length file ≤ 16384
     → FileAccepted file (record { counts = cs; blocks = bs; rules = rs })
 unfolding writing linesOf

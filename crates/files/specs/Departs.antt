@@ -4,7 +4,7 @@ use mathlib.Core.List.{List, [], _∷_, _++_}
 use Prim.Native.Nat.{ℕ, _+_, _≤_, _<_}
 use lib.ListN.{length}
 use Rattle.answers.specs.Told.{Told, tell}
-use Rattle.book_lines.specs.Book.{Book, InGrammar, linesOf, joined, writing}
+use Rattle.file_lines.specs.Book.{Book, InGrammar, linesOf, joined, writing}
 
 -- Some book in the grammar has these as its first lines.
 pub record Begins (ls : List (List ℕ)) : Type 0 where

@@ -4,14 +4,14 @@ use mathlib.Core.List.{List, _∷_, _++_, map}
 use Prim.Native.Nat.{ℕ, _+_, _*_, _≤_}
 use lib.ListN.{length, take, drop}
 use Rattle.shapes.specs.Lent.{shapeOf}
-use Rattle.numerals.specs.Digits.{decimal}
-use Rattle.book_lines.specs.Book.{Small, RightBlock, RightRule, textsWord, blocksWord, rulesWord, headLine, blockLine, ruleLine, joined}
-use Rattle.sections.specs.Steps.{State, DepartsFrom}
-use Rattle.sections.specs.Steps.State.{start, counts, blocks}
+use Rattle.file_numerals.specs.Digits.{decimal}
+use Rattle.file_lines.specs.Book.{Writable, RightBlock, RuleInGrammar, textsWord, blocksWord, rulesWord, headLine, blockLine, ruleLine, joined}
+use Rattle.file_sections.specs.Steps.{State, DepartsFrom}
+use Rattle.file_sections.specs.Steps.State.{start, counts, blocks}
 use Rattle.rules.specs.Rule.{rulesOf}
-use Rattle.sections.specs.declared.Section.{Section}
-use Rattle.sections.specs.declared.Section.the-variants.{Read as section-read, Departs as section-departs}
-use Rattle.sections.specs.Parts.{Items, SectionIs}
+use Rattle.file_sections.specs.declared.Section.{Section}
+use Rattle.file_sections.specs.declared.Section.the-variants.{Read as section-read, Departs as section-departs}
+use Rattle.file_sections.specs.Parts.{Items, SectionIs}
 use Rattle.shapes.specs.Shape.{blockSize}
 use Rattle.files.specs.declared.Last.{Last}
 use Rattle.files.specs.declared.Last.the-variants.{Read as last-read, Departs as last-departs}
@@ -25,17 +25,17 @@ SectionSeen word most Right text items size s bytes out out′ (section-read n m
 SectionSeen word most Right text items size s bytes out out′ (section-departs i) = DepartsFrom s bytes i × (i ≤ most + 1)
 
 abbrev pub TextsSeen : List ℕ → List ℕ → List ℕ → Section → Type 0
-TextsSeen bytes out out′ r = SectionSeen textsWord 8 Small decimal (λ (xs : List ℕ). xs) (λ (n : ℕ). n) start bytes out out′ r
+TextsSeen bytes out out′ r = SectionSeen textsWord 8 Writable decimal (λ (xs : List ℕ). xs) (λ (n : ℕ). n) start bytes out out′ r
 
 abbrev pub BlocksSeen : List ℕ → List ℕ → List ℕ → Section → Type 0
 BlocksSeen bytes out out′ r = SectionSeen blocksWord 256 RightBlock blockLine shapeOf (λ (n : ℕ). n * blockSize) (counts 0) bytes out out′ r
 
 abbrev pub RulesSeen : List ℕ → List ℕ → List ℕ → Section → Type 0
-RulesSeen bytes out out′ r = SectionSeen rulesWord 16 RightRule ruleLine rulesOf (λ (n : ℕ). n * 3) (blocks 0) bytes out out′ r
+RulesSeen bytes out out′ r = SectionSeen rulesWord 16 RuleInGrammar ruleLine rulesOf (λ (n : ℕ). n * 3) (blocks 0) bytes out out′ r
 
 -- the rules, and nothing after them
 pub record LastIs (bytes rs rs′ : List ℕ) (n : ℕ) : Type 0 where
-  pub items : Items 16 RightRule (rulesOf (take (n * 3) rs′)) n
+  pub items : Items 16 RuleInGrammar (rulesOf (take (n * 3) rs′)) n
   pub whole : bytes ≡ joined (headLine rulesWord n ∷ map ruleLine (rulesOf (take (n * 3) rs′)))
   pub stays : drop (n * 3) rs′ ≡ drop (n * 3) rs
 
@@ -46,7 +46,7 @@ LastRead bytes rs rs′ (last-departs i) = DepartsFrom (blocks 0) bytes i × (i 
 -- the blocks and the rules, and nothing after them
 pub record TailIs (bytes bs rs bs′ rs′ : List ℕ) (n m : ℕ) : Type 0 where
   pub blocks-are : Items 256 RightBlock (shapeOf (take (n * blockSize) bs′)) n
-  pub rules-are : Items 16 RightRule (rulesOf (take (m * 3) rs′)) m
+  pub rules-are : Items 16 RuleInGrammar (rulesOf (take (m * 3) rs′)) m
   pub whole : bytes ≡ joined (headLine blocksWord n ∷ (map blockLine (shapeOf (take (n * blockSize) bs′)) ++ (headLine rulesWord m ∷ map ruleLine (rulesOf (take (m * 3) rs′)))))
   pub blocks-stay : drop (n * blockSize) bs′ ≡ drop (n * blockSize) bs
   pub rules-stay : drop (m * 3) rs′ ≡ drop (m * 3) rs

@@ -5,7 +5,7 @@ use Prim.Native.Nat.{ℕ, _*_}
 use lib.ListN.{length, take, drop}
 use Rattle.answers.specs.Told.{told}
 use Rattle.shapes.specs.Lent.{shapeOf}
-use Rattle.book_lines.specs.Book.{Book}
+use Rattle.file_lines.specs.Book.{Book}
 use Rattle.files.specs.declared.Sizes.{Sizes}
 use Rattle.files.specs.declared.Read.{Read}
 use Rattle.files.specs.declared.Read.the-variants.{Book as is-book, Refused}

@@ -1,7 +1,7 @@
 // A book file: three sections and nothing after them.
 use answers::Refusal;
-use sections::Item;
-use sections::Section;
+use file_sections::Item;
+use file_sections::Section;
 ghost use Prim.Native.Nat.{_≤_};
 ghost use lib.ListN.{length};
 ghost use Rattle.files.specs.Parts.{LastRead, TailRead};
@@ -35,7 +35,7 @@ fn read_last(bytes: &[u8], rules: &mut [u64]) -> Last
     requires { ⌜ 48 ≤ length (now rules) ⌝ }
     ensures { λ r. ⌜ LastRead (now (bytes .entry)) (now (rules .entry)) (now (rules .exit)) r ⌝ }
 {
-    match sections::read_section(Item::Rule, b"RULES ", 16, bytes, rules) {
+    match file_sections::read_section(Item::Rule, b"RULES ", 16, bytes, rules) {
         Section::Departs(i) => Last::Departs(i),
         Section::Read(n, m) => {
             if m < bytes.len() {
@@ -52,7 +52,7 @@ fn read_tail(bytes: &[u8], blocks: &mut [u64], rules: &mut [u64]) -> Tail
     requires { ⌜ 48 ≤ length (now rules) ⌝ }
     ensures { λ r. ⌜ TailRead (now (bytes .entry)) (now (blocks .entry)) (now (rules .entry)) (now (blocks .exit)) (now (rules .exit)) r ⌝ }
 {
-    match sections::read_section(Item::Block, b"BLOCKS ", 256, bytes, blocks) {
+    match file_sections::read_section(Item::Block, b"BLOCKS ", 256, bytes, blocks) {
         Section::Departs(i) => Tail::Departs(i),
         Section::Read(n, m) => match read_last(&bytes[m..], rules) {
             Last::Departs(i) => Tail::Departs(n as u64 + i + 1),
@@ -71,7 +71,7 @@ pub fn read_book(file: &[u8], counts: &mut [u64], blocks: &mut [u64], rules: &mu
     if 16384 < file.len() {
         return Read::Refused(Refusal::Size);
     }
-    match sections::read_section(Item::Count, b"TEXTS ", 8, file, counts) {
+    match file_sections::read_section(Item::Count, b"TEXTS ", 8, file, counts) {
         Section::Departs(i) => Read::Refused(Refusal::Line(i + 1)),
         Section::Read(n, m) => match read_tail(&file[m..], blocks, rules) {
             Tail::Departs(i) => Read::Refused(Refusal::Line(n as u64 + i + 2)),

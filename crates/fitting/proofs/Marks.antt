@@ -17,7 +17,7 @@ use Rattle.sets.specs.Set.{setOf, Exactly}
 use Rattle.sets.proofs.Exact.{exactly-as, exactly-at, none-exactly, both-exactly, either-exactly, one-exactly, held-under}
 use Rattle.sets.proofs.Four.{four-exactly}
 use Rattle.rows.specs.Row.{rowIn}
-use Rattle.fitting.specs.Rows.{Picked, NotedAt, Noted, Marked, Seen, HeldAt}
+use Rattle.fitting.specs.Rows.{Picked, NotedAt, Noted, Marked, SeenTo, HeldAt}
 use Rattle.fitting.proofs.Lowest.{lowest-off}
 
 -- ---- the rows of the numbers of w, gathered in r; those of `left` are still to come
@@ -198,14 +198,14 @@ noted-rows t marks few g c low =
 
 -- ---- one character more is seen
 
-module _ (t : List ℕ) (k seen : ℕ) (s : Seen t k seen) where
-  pub seen-other : 128 ≤ getD t k 0 → Seen t (k + 1) seen
+module _ (t : List ℕ) (k seen : ℕ) (s : SeenTo t k seen) where
+  pub seen-other : 128 ≤ getD t k 0 → SeenTo t (k + 1) seen
   seen-other h p l c = ⊎-elim
       (λ d. s p d c)
       (λ d. let same : getD t p 0 ≡ getD t k 0 = ap (λ (q : ℕ). getD t q 0) (let z : p ≡ k = omega arith in z) in absurd (omega arith))
       (lt-or-le p k)
 
-  pub seen-more : {one more : ℕ} → Exactly one (λ e. e ≡ getD t k 0) → more ≡ bitOr seen one → Seen t (k + 1) more
+  pub seen-more : {one more : ℕ} → Exactly one (λ e. e ≡ getD t k 0) → more ≡ bitOr seen one → SeenTo t (k + 1) more
   seen-more {one} x e p l c =
       let added = either-exactly seen one e in
       ⊎-elim
@@ -215,7 +215,7 @@ module _ (t : List ℕ) (k seen : ℕ) (s : Seen t k seen) where
 
 -- ---- the places whose character a base holds
 
-pub held-places : (t marks : List ℕ) (base seen : ℕ) {chars held : ℕ} → Marked t marks → Seen t (length t) seen → ((c : ℕ) → Holds base c → c < 128)
+pub held-places : (t marks : List ℕ) (base seen : ℕ) {chars held : ℕ} → Marked t marks → SeenTo t (length t) seen → ((c : ℕ) → Holds base c → c < 128)
     → chars ≡ bitAnd base seen → Exactly held (Picked (rowIn marks) chars) → HeldAt base t held
 held-places t marks base seen {chars} m s low e = exactly-as so mark
   where

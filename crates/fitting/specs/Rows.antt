@@ -23,8 +23,8 @@ abbrev pub Marked : List ℕ → List ℕ → Type 0
 Marked t marks = (c : ℕ) → c < codes → Exactly (rowIn marks c) (λ p. (p < length t) × (getD t p 0 ≡ c))
 
 -- the first k characters of t are among those seen, but for bytes above 127
-abbrev pub Seen : List ℕ → ℕ → ℕ → Type 0
-Seen t k seen = (p : ℕ) → p < k → getD t p 0 < codes → Holds seen (getD t p 0)
+abbrev pub SeenTo : List ℕ → ℕ → ℕ → Type 0
+SeenTo t k seen = (p : ℕ) → p < k → getD t p 0 < codes → Holds seen (getD t p 0)
 
 -- p stands in the row of a number that w holds
 pub record Picked (R : ℕ → ℕ) (w p : ℕ) : Type 0 where

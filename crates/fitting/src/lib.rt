@@ -15,13 +15,13 @@ ghost use Rattle.shapes.specs.Shape.{Block as Meant};
 ghost use Rattle.shapes.specs.Lent.{meant, shapeOf, Accepted};
 ghost use Rattle.rows.specs.Row.{rowIn};
 ghost use Rattle.fitting.specs.Fit.{FitPromise};
-ghost use Rattle.fitting.specs.Rows.{Noted, Marked, Seen, Picked, HeldAt, Steps, StepsUpTo, Row};
+ghost use Rattle.fitting.specs.Rows.{Noted, Marked, SeenTo, Picked, HeldAt, Steps, StepsUpTo, Row};
 
 // Marks place p in the row of its character c, and adds c to the characters seen. A byte above 127 has no row.
 fn mark_place(marks: &mut [u64; 512], seen: Set, c: usize, p: usize) -> Set
     requires { ⌜ p ≤ 255 ⌝ }
     ensures { λ _. ⌜ ((t : List ℕ) → getD t p 0 ≡ c → Noted t p (now (marks .entry)) → Noted t (p + 1) (now (marks .exit))) ⌝ }
-    ensures { λ r. ⌜ ((t : List ℕ) → getD t p 0 ≡ c → Seen t p (setOf seen) → Seen t (p + 1) (setOf r)) ⌝ }
+    ensures { λ r. ⌜ ((t : List ℕ) → getD t p 0 ≡ c → SeenTo t p (setOf seen) → SeenTo t (p + 1) (setOf r)) ⌝ }
 {
     if 128 <= c {
         return seen;
@@ -36,7 +36,7 @@ fn mark(text: &[u8], marks: &mut [u64; 512]) -> Set
     requires { ⌜ length (now text) ≤ 250 ⌝ }
     requires { ⌜ now marks ≡ replicate 512 0 ⌝ }
     ensures { λ _. ⌜ Marked (now (text .entry)) (now (marks .exit)) ⌝ }
-    ensures { λ r. ⌜ Seen (now (text .entry)) (length (now (text .entry))) (setOf r) ⌝ }
+    ensures { λ r. ⌜ SeenTo (now (text .entry)) (length (now (text .entry))) (setOf r) ⌝ }
 {
     let mut seen = sets::none();
     let mut p = 0;

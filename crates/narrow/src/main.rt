@@ -5,7 +5,7 @@ ghost use Prim.Native.Nat.{_≤_};
 ghost use lib.ListN.{length};
 ghost use Rattle.file_runs.specs.Ends.{FileEnds};
 ghost use Rattle.file_runs.specs.Promise.{Report};
-ghost use Rattle.narrow.specs.Within.{Within, ReadMore};
+ghost use Rattle.narrow.specs.Within.{ReadWithin, ReadMore};
 use answers::Written;
 
 // What the input gave: its bytes, up to what there is room for, or a read that failed.
@@ -25,7 +25,7 @@ fn main() {
 
 // Reads on until a read gives no more bytes or the buffer is full.
 fn read_input(buffer: &mut [u8]) -> Input
-    ensures { λ r. ⌜ Within (now (buffer .exit)) r ⌝ }
+    ensures { λ r. ⌜ ReadWithin (now (buffer .exit)) r ⌝ }
 {
     let mut done = 0;
     while done < buffer.len() {
@@ -53,7 +53,7 @@ fn read_more(buffer: &mut [u8], done: usize) -> Input
 
 // One read. It gives no bytes at the end of the input.
 fn read_some(buffer: &mut [u8]) -> Input
-    ensures { λ r. ⌜ Within (now (buffer .exit)) r ⌝ }
+    ensures { λ r. ⌜ ReadWithin (now (buffer .exit)) r ⌝ }
 {
     let got = libc::read(0, buffer);
     if got < 0 {
@@ -75,7 +75,7 @@ fn report_of(file: &[u8], report: &mut [u8]) -> usize
 {
     match dashed::run_file(file, report) {
         Written::Text(n) => n,
-        Written::Refused(r) => reports::write_refused(r, report),
+        Written::Refused(r) => file_reports::write_refused(r, report),
     }
 }
 

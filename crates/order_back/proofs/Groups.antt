@@ -59,7 +59,8 @@ told false t p = absurd (t .not-so refl p)
 
 module _ {x z e s : List ℕ} (l : Laid x z e s) {k : ℕ} (blocks : k ≡ length x / 4) {G : Guide} where
   -- how positions sort at one state
-  sorted-at : {q u same apart : ℕ} {may : Bool} {r : Sorts} → same ≡ G .same q → apart ≡ G .apart q → Tells may (0 < G .ends q) → SortedBy x s k u same apart may r → SortedAs (slotAt (shapeOf x)) G u q r
+  sorted-at : {q u same apart : ℕ} {may : Bool} {r : Sorts} → same ≡ G .same q → apart ≡ G .apart q → Tells may (0 < G .ends q)
+      → SortedBy x s k u same apart may r → SortedAs (slotAt (shapeOf x)) G u q r
   sorted-at {q} {u} {same} {apart} {may} {r} a b t g = record {
     stays = exactly-as (λ i m. subst (Meets (slotAt (shapeOf x) i .base)) a m) (λ i m. subst (Meets (slotAt (shapeOf x) i .base)) (sym a) m) (laid-meets l blocks (g .stays));
     parts = parting;
@@ -79,7 +80,7 @@ module _ {x z e s : List ℕ} (l : Laid x z e s) {k : ℕ} (blocks : k ≡ lengt
   group-done {u} {same} {apart} {clear} {lo} {hi} {r = r} {g = g} {rows = rows} pos order ea eb t o w m right f p q =
       let here = sorted-at ea eb t o in
       let pass : PassOf (slotAt (shapeOf x)) G u lo hi g = f .holds (slotAt (shapeOf x)) G u (laid-zones l blocks)
-          (λ i h j. sorted-as (w .same i h j) (w .apart i h j) (w .ends i h j) here) (λ i h j. m .row i (omega arith)) right in
+      (λ i h j. sorted-as (w .same i h j) (w .apart i h j) (w .ends i h j) here) (λ i h j. m .row i (omega arith)) right in
       record {
         pass = pass;
         long = q .long ∙ p .long;
@@ -89,7 +90,8 @@ module _ {x z e s : List ℕ} (l : Laid x z e s) {k : ℕ} (blocks : k ≡ lengt
 -- ---- all groups
 
 -- past the last row no text matches
-pub top-limit : {x text rows : List ℕ} {m n top : ℕ} → m ≤ length text → Forth x text m rows n → (n < m → top ≡ n) → (m ≤ n → top ≡ m + 1) → Limit (slotAt (shapeOf x)) (nextOf (take m text)) top
+pub top-limit : {x text rows : List ℕ} {m n top : ℕ} → m ≤ length text → Forth x text m rows n → (n < m → top ≡ n)
+    → (m ≤ n → top ≡ m + 1) → Limit (slotAt (shapeOf x)) (nextOf (take m text)) top
 unfolding Empty
 top-limit {x} {text} {m = m} {n = n} w f short whole =
     let long = taken-length text m w in

@@ -83,7 +83,14 @@ fn group(
     let q = hi - 1;
     let same = order_guides::same_at(text, m, q);
     let apart = order_guides::apart_at(d, text, m, q);
-    let s = sorted(same, apart, order_guides::may_end(d, strict, m, q), x, slots, u);
+    let s = sorted(
+        same,
+        apart,
+        order_guides::may_end(d, strict, m, q),
+        x,
+        slots,
+        u,
+    );
     let g = order_states::states(zones, ends, k, rows, s, lo, hi, clear);
     give_some(g.moved, same, slots, chars, k);
     give_some(g.parted, apart, slots, chars, k);
@@ -128,22 +135,25 @@ pub fn gather(
     while 0 < hi {
         let lo = order_guides::steady_from(text, m, hi);
         let clear = g.clear;
-        g = order_states::joined(g, group(
-            d,
-            strict,
-            x,
-            zones,
-            ends,
-            slots,
-            u,
-            text,
-            m,
-            rows,
-            lo,
-            hi,
-            clear,
-            chars,
-        ));
+        g = order_states::joined(
+            g,
+            group(
+                d,
+                strict,
+                x,
+                zones,
+                ends,
+                slots,
+                u,
+                text,
+                m,
+                rows,
+                lo,
+                hi,
+                clear,
+                chars,
+            ),
+        );
         hi = lo;
     }
     g

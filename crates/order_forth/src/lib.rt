@@ -13,15 +13,7 @@ ghost use Rattle.shapes.specs.Shape.{blockCount};
 ghost use Rattle.order_forth.specs.Forth.{Forth};
 
 // The positions that hold the character after q, given those that hold the one before it.
-fn next_mask(
-    x: &[u64],
-    slots: &[u64],
-    k: usize,
-    text: &[u8],
-    m: usize,
-    q: usize,
-    mask: Set,
-) -> Set
+fn next_mask(x: &[u64], slots: &[u64], k: usize, text: &[u8], m: usize, q: usize, mask: Set) -> Set
     requires { ⌜ (k ≤ blockCount (now x)) × (k ≤ rowCount (now slots)) ⌝ }
     requires { ⌜ Plain (now text) m × (q < m) ⌝ }
     requires { ⌜ (0 < q → Exactly (setOf mask) (Matched (λ j. blockAt (now x) j .base) (rowIn (now slots)) k (nextOf (take m (now text)) (q - 1)))) ⌝ }

@@ -15,10 +15,10 @@ pub fn same_at(text: &[u8], m: usize, q: usize) -> Set
     requires { ⌜ Plain (now text) m ⌝ }
     ensures { λ r. ⌜ setOf r ≡ nextOf (take m (now (text .entry))) q ⌝ }
 {
-    if m <= q {
-        return sets::none();
+    if q < m {
+        return sets::single(text[q] as usize);
     }
-    sets::single(text[q] as usize)
+    sets::none()
 }
 
 // The characters on the right side of c.

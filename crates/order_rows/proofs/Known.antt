@@ -13,18 +13,18 @@ use Rattle.rests.proofs.Walks.{below}
 use Rattle.rows.specs.Steps.{Leads, there, Lands, Given}
 use Rattle.row_paths.specs.Rows.{Zones}
 use Rattle.order_sides.specs.Guide.{Guide, Free}
-use Rattle.order_rows.specs.Rows.{Limit, Quits, Moves, Parts, Pass, Brings, Brought, MayQuit, MayMove, MayTake, Known}
+use Rattle.order_rows.specs.Rows.{Limit, QuitsAt, Moves, PartsAt, PassAlong, Brings, Brought, MayQuit, MayMove, MayTake, Known}
 
-module _ {X : ℕ → Block} {G : Guide} {U h clear quit moved parted : ℕ} (pass : Pass X G U 0 h clear quit moved parted) (limit : Limit X (G .same) h) where
+module _ {X : ℕ → Block} {G : Guide} {U h clear quit moved parted : ℕ} (pass : PassAlong X G U 0 h clear quit moved parted) (limit : Limit X (G .same) h) where
   -- ---- all states
 
-  quits-all : (i q : ℕ) → Quits X G U q i → Holds quit i
+  quits-all : (i q : ℕ) → QuitsAt X G U q i → Holds quit i
   quits-all i q x = pass .quits .mark i (record { state = q; from = omega arith; before = limit i q (x .reached); has = x })
 
   moves-all : (i q : ℕ) → Moves X G U q i → Holds moved i
   moves-all i q x = pass .moves .mark i (record { state = q; from = omega arith; before = limit i q (x .reached); has = x })
 
-  parts-all : (i q : ℕ) → Parts X G q i → Holds parted i
+  parts-all : (i q : ℕ) → PartsAt X G q i → Holds parted i
   parts-all i q x = pass .parts .mark i (record { state = q; from = omega arith; before = limit i q (x .reached); has = x })
 
   module _ {S : ℕ → ℕ} {k : ℕ} {A : ℕ → ℕ} (b : Brought X G U S k 0 h A) where
@@ -38,7 +38,7 @@ module _ {X : ℕ → Block} {G : Guide} {U h clear quit moved parted : ℕ} (pa
     stays-mark : (j c q i : ℕ) → j < k → Holds (S j) i → Moves X G U q i → Holds (G .same q) c → Holds (A j) c
     stays-mark j c q i l s m g = b .mark j c l (Brings.stays q i (omega arith) (limit i q (m .reached)) s m g)
 
-    parts-mark : (j c q i : ℕ) → j < k → Holds (S j) i → Parts X G q i → Holds (G .apart q) c → Holds (A j) c
+    parts-mark : (j c q i : ℕ) → j < k → Holds (S j) i → PartsAt X G q i → Holds (G .apart q) c → Holds (A j) c
     parts-mark j c q i l s m g = b .mark j c l (Brings.parts q i (omega arith) (limit i q (m .reached)) s m g)
 
     -- ---- where no text parts from T

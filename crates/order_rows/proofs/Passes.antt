@@ -13,7 +13,7 @@ use Rattle.shapes.specs.Shape.{Block}
 use Rattle.rows.specs.Steps.{Leads, Lands, Given}
 use Rattle.row_paths.specs.Rows.{Zones}
 use Rattle.order_sides.specs.Guide.{Guide, Even}
-use Rattle.order_rows.specs.Rows.{Right, Sorted, Quits, Moves, Parts, During, Pass, Brings, Brought}
+use Rattle.order_rows.specs.Rows.{Right, Sorted, QuitsAt, Moves, PartsAt, During, PassAlong, Brings, Brought}
 use Rattle.order_rows.proofs.Rests.{rests-here, quits-here, moves-here, parts-here}
 
 -- ---- some states
@@ -44,27 +44,27 @@ module _ (P : ℕ → ℕ → Type 0) where
           (lt-or-le (d .state) mid)
 
 module _ {X : ℕ → Block} {G : Guide} {U : ℕ} where
-  pub pass-none : {lo c a m p : ℕ} → Right X G U lo c → a ≡ 0 → m ≡ 0 → p ≡ 0 → Pass X G U lo lo c a m p
+  pub pass-none : {lo c a m p : ℕ} → Right X G U lo c → a ≡ 0 → m ≡ 0 → p ≡ 0 → PassAlong X G U lo lo c a m p
   pass-none r a m p = record {
     rests = r;
-    quits = during-none (λ q. Quits X G U q) a;
+    quits = during-none (λ q. QuitsAt X G U q) a;
     moves = during-none (λ q. Moves X G U q) m;
-    parts = during-none (λ q. Parts X G q) p;
+    parts = during-none (λ q. PartsAt X G q) p;
   }
 
   -- one state
-  pub pass-one : {c a m p : ℕ} (q : ℕ) → Right X G U q c → Exactly a (Quits X G U q) → Exactly m (Moves X G U q) → Exactly p (Parts X G q) → Pass X G U q (q + 1) c a m p
+  pub pass-one : {c a m p : ℕ} (q : ℕ) → Right X G U q c → Exactly a (QuitsAt X G U q) → Exactly m (Moves X G U q) → Exactly p (PartsAt X G q) → PassAlong X G U q (q + 1) c a m p
   pass-one q r a m p = record {
     rests = r;
-    quits = during-one (λ q. Quits X G U q) q a;
+    quits = during-one (λ q. QuitsAt X G U q) q a;
     moves = during-one (λ q. Moves X G U q) q m;
-    parts = during-one (λ q. Parts X G q) q p;
+    parts = during-one (λ q. PartsAt X G q) q p;
   }
 
   -- one state, as the code computes it
   pub pass-state : {Z E : ℕ → ℕ} {k : ℕ} (c next apart leave row q : ℕ) {d stay all r t quit moved parted : ℕ} → Zones X Z E k → Sorted X G U q next apart leave
       → Exactly row (λ i. Even X G i q) → Right X G U (q + 1) c → d ≡ c / 2 → stay ≡ bitAnd d next → all ≡ bitOr leave stay → Exactly r (Leads Z E k all)
-      → Exactly t (Lands Z E k r) → quit ≡ bitAnd row t → moved ≡ bitAnd row stay → parted ≡ bitAnd row apart → Pass X G U q (q + 1) r quit moved parted
+      → Exactly t (Lands Z E k r) → quit ≡ bitAnd row t → moved ≡ bitAnd row stay → parted ≡ bitAnd row apart → PassAlong X G U q (q + 1) r quit moved parted
   pass-state c next apart leave row q {t = t} z g v o x y w l n a m p = pass-one q
       (rests-here z c next apart leave q o g x y w l)
       (quits-here z c next apart leave q o g x y w l row t v n a)
@@ -72,13 +72,13 @@ module _ {X : ℕ → Block} {G : Guide} {U : ℕ} where
       (parts-here z c next apart leave q o g row v p)
 
   -- earlier states before later ones
-  pub pass-join : {c₁ c₂ : ℕ} (a₁ m₁ p₁ a₂ m₂ p₂ : ℕ) {a m p lo mid hi : ℕ} → lo ≤ mid → mid ≤ hi → Pass X G U mid hi c₁ a₁ m₁ p₁ → Pass X G U lo mid c₂ a₂ m₂ p₂
-      → a ≡ bitOr a₁ a₂ → m ≡ bitOr m₁ m₂ → p ≡ bitOr p₁ p₂ → Pass X G U lo hi c₂ a m p
+  pub pass-join : {c₁ c₂ : ℕ} (a₁ m₁ p₁ a₂ m₂ p₂ : ℕ) {a m p lo mid hi : ℕ} → lo ≤ mid → mid ≤ hi → PassAlong X G U mid hi c₁ a₁ m₁ p₁ → PassAlong X G U lo mid c₂ a₂ m₂ p₂
+      → a ≡ bitOr a₁ a₂ → m ≡ bitOr m₁ m₂ → p ≡ bitOr p₁ p₂ → PassAlong X G U lo hi c₂ a m p
   pass-join a₁ m₁ p₁ a₂ m₂ p₂ {lo = lo} {mid = mid} {hi = hi} l h x y e f g = record {
     rests = y .rests;
-    quits = during-join (λ q. Quits X G U q) a₁ a₂ lo mid hi l h (x .quits) (y .quits) e;
+    quits = during-join (λ q. QuitsAt X G U q) a₁ a₂ lo mid hi l h (x .quits) (y .quits) e;
     moves = during-join (λ q. Moves X G U q) m₁ m₂ lo mid hi l h (x .moves) (y .moves) f;
-    parts = during-join (λ q. Parts X G q) p₁ p₂ lo mid hi l h (x .parts) (y .parts) g;
+    parts = during-join (λ q. PartsAt X G q) p₁ p₂ lo mid hi l h (x .parts) (y .parts) g;
   }
 
   -- a guide that says the same at two states
@@ -108,7 +108,7 @@ module _ {X : ℕ → Block} {G : Guide} {U : ℕ} where
 
     -- the characters of some earlier states that say the same
     pub brought-more : {A B D : ℕ → ℕ} {lo mid hi m t p u : ℕ} → lo ≤ mid → mid ≤ hi → Brought X G U S k mid hi A
-        → Exactly m (λ i. During lo mid (λ q. Moves X G U q i)) → Exactly p (λ i. During lo mid (λ q. Parts X G q i))
+        → Exactly m (λ i. During lo mid (λ q. Moves X G U q i)) → Exactly p (λ i. During lo mid (λ q. PartsAt X G q i))
         → ((q : ℕ) → lo ≤ q → q < mid → G .same q ≡ t) → ((q : ℕ) → lo ≤ q → q < mid → G .apart q ≡ u)
         → Given S k m t A B → Given S k p u B D → Brought X G U S k lo hi D
     brought-more {A} {B} {D} {lo} {mid} {hi} {m} {t} {p} {u} l h x y z same apart g f = record {

@@ -11,7 +11,7 @@ use Rattle.shapes.specs.Shape.{Block}
 use Rattle.rows.specs.Steps.{Leads, there, step, Lands}
 use Rattle.row_paths.specs.Rows.{Zones}
 use Rattle.order_sides.specs.Guide.{Guide, Clear, Even}
-use Rattle.order_rows.specs.Rows.{Right, Sorted, Quits, Moves, Parts}
+use Rattle.order_rows.specs.Rows.{Right, Sorted, QuitsAt, Moves, PartsAt}
 use Rattle.order_rows.proofs.Evens.{even-ended, even-taken}
 
 -- from i some rest is on the right side, and not first by the end of a run
@@ -71,7 +71,7 @@ module _ {X : ℕ → Block} {G : Guide} {U : ℕ} where
           pub rests-here : Right X G U q r
           rests-here = record { so = λ i h. leads-clear all-so (l .so i h); mark = λ i p h. l .mark i (clear-leads all-mark p h) }
 
-          pub quits-here : (row t : ℕ) {n : ℕ} → Exactly row (λ i. Even X G i q) → Exactly t (Lands Z E k r) → n ≡ bitAnd row t → Exactly n (λ i. Quits X G U q i)
+          pub quits-here : (row t : ℕ) {n : ℕ} → Exactly row (λ i. Even X G i q) → Exactly t (Lands Z E k r) → n ≡ bitAnd row t → Exactly n (λ i. QuitsAt X G U q i)
           quits-here row t v o e = record {
             so = λ i h.
                 let b = both-exactly row t e .so i h in
@@ -88,7 +88,7 @@ module _ {X : ℕ → Block} {G : Guide} {U : ℕ} where
                 both-exactly row t e .mark i (v .mark i (m .reached), o .mark i (record { number = f .0; below = f .1; from = f .2; to = record { shared = i + X i .upper; first = f .3; second = held } }));
           }
 
-      pub parts-here : (row : ℕ) {n : ℕ} → Exactly row (λ i. Even X G i q) → n ≡ bitAnd row apart → Exactly n (λ i. Parts X G q i)
+      pub parts-here : (row : ℕ) {n : ℕ} → Exactly row (λ i. Even X G i q) → n ≡ bitAnd row apart → Exactly n (λ i. PartsAt X G q i)
       parts-here row r e = record {
         so = λ i h. let b = both-exactly row apart e .so i h in record { reached = r .so i (b .0); meets = g .parts .so i (b .1) };
         mark = λ i m. both-exactly row apart e .mark i (r .mark i (m .reached), g .parts .mark i (m .meets));

@@ -36,7 +36,7 @@ pub record Sorted (X : ℕ → Block) (G : Guide) (U q same apart over : ℕ) : 
   pub leaves : Exactly over (λ i. ((i ≡ U) × (0 < G .ends q)) ⊎ Meets (X i .base) (G .apart q))
 
 -- Some text on the right side matches T up to position i and state q. There its run ends early, or it takes the next character of T, or it parts from T.
-pub record Quits (X : ℕ → Block) (G : Guide) (U q i : ℕ) : Type 0 where
+pub record QuitsAt (X : ℕ → Block) (G : Guide) (U q i : ℕ) : Type 0 where
   pub reached : Even X G i q
   pub enough : X i .lower ≡ 0
   pub on : Clear X G U (i + X i .upper) q
@@ -46,7 +46,7 @@ pub record Moves (X : ℕ → Block) (G : Guide) (U q i : ℕ) : Type 0 where
   pub meets : Meets (X i .base) (G .same q)
   pub on : Clear X G U (i + 1) (q + 1)
 
-pub record Parts (X : ℕ → Block) (G : Guide) (q i : ℕ) : Type 0 where
+pub record PartsAt (X : ℕ → Block) (G : Guide) (q i : ℕ) : Type 0 where
   pub reached : Even X G i q
   pub meets : Meets (X i .base) (G .apart q)
 
@@ -58,16 +58,16 @@ pub record During (lo hi : ℕ) (P : ℕ → Type 0) : Type 0 where
   pub has : P state
 
 -- The positions of each kind, of the states from lo on and before hi.
-pub record Pass (X : ℕ → Block) (G : Guide) (U lo hi clear quit moved parted : ℕ) : Type 0 where
+pub record PassAlong (X : ℕ → Block) (G : Guide) (U lo hi clear quit moved parted : ℕ) : Type 0 where
   pub rests : Right X G U lo clear
-  pub quits : Exactly quit (λ i. During lo hi (λ q. Quits X G U q i))
+  pub quits : Exactly quit (λ i. During lo hi (λ q. QuitsAt X G U q i))
   pub moves : Exactly moved (λ i. During lo hi (λ q. Moves X G U q i))
-  pub parts : Exactly parted (λ i. During lo hi (λ q. Parts X G q i))
+  pub parts : Exactly parted (λ i. During lo hi (λ q. PartsAt X G q i))
 
 -- Some text on the right side takes c, staying with T or parting from it there, at a position of `slot` and a state from lo on and before hi.
 pub data Brings (X : ℕ → Block) (G : Guide) (U slot lo hi c : ℕ) : Type 0 where
   stays : (q i : ℕ) → lo ≤ q → q < hi → Holds slot i → Moves X G U q i → Holds (G .same q) c → Brings X G U slot lo hi c
-  parts : (q i : ℕ) → lo ≤ q → q < hi → Holds slot i → Parts X G q i → Holds (G .apart q) c → Brings X G U slot lo hi c
+  parts : (q i : ℕ) → lo ≤ q → q < hi → Holds slot i → PartsAt X G q i → Holds (G .apart q) c → Brings X G U slot lo hi c
 
 -- The characters that the positions S j are brought, for each j below k.
 pub record Brought (X : ℕ → Block) (G : Guide) (U : ℕ) (S : ℕ → ℕ) (k lo hi : ℕ) (A : ℕ → ℕ) : Type 0 where
@@ -76,7 +76,7 @@ pub record Brought (X : ℕ → Block) (G : Guide) (U : ℕ) (S : ℕ → ℕ) (
 
 -- At any state, or once the text is on the right side already.
 pub data MayQuit (X : ℕ → Block) (G : Guide) (U i : ℕ) : Type 0 where
-  even : (q : ℕ) → Quits X G U q i → MayQuit X G U i
+  even : (q : ℕ) → QuitsAt X G U q i → MayQuit X G U i
   free : i ≤ U → X i .lower ≡ 0 → Free X G i → MayQuit X G U i
 
 pub data MayMove (X : ℕ → Block) (G : Guide) (U i : ℕ) : Type 0 where
@@ -85,7 +85,7 @@ pub data MayMove (X : ℕ → Block) (G : Guide) (U i : ℕ) : Type 0 where
 
 pub data MayTake (X : ℕ → Block) (G : Guide) (U slot c : ℕ) : Type 0 where
   stays : (q i : ℕ) → Holds slot i → Moves X G U q i → Holds (G .same q) c → MayTake X G U slot c
-  parts : (q i : ℕ) → Holds slot i → Parts X G q i → Holds (G .apart q) c → MayTake X G U slot c
+  parts : (q i : ℕ) → Holds slot i → PartsAt X G q i → Holds (G .apart q) c → MayTake X G U slot c
   free : (i : ℕ) → Holds slot i → i ≤ U → c < 256 → Free X G i → MayTake X G U slot c
 
 -- All that is to be known of the texts on the right side, block by block.

@@ -8,7 +8,7 @@ use Rattle.sets.proofs.Exact.{exactly-at}
 use Rattle.shapes.specs.Shape.{Block}
 use Rattle.rows.specs.Row.{rowIn}
 use Rattle.order_sides.specs.Guide.{Guide}
-use Rattle.order_rows.specs.Rows.{Right, Pass}
+use Rattle.order_rows.specs.Rows.{Right, PassAlong}
 use Rattle.order_rows.proofs.Passes.{pass-none, pass-join}
 use Rattle.order_states.specs.declared.Sorts.{Sorts}
 use Rattle.order_states.specs.declared.Gathered.{Gathered}
@@ -17,7 +17,7 @@ use Rattle.order_states.specs.States.{PassOf, Joins, OneState, States}
 pub joins-pass : {g e r : Gathered} → Joins g e r → {X : ℕ → Block} {G : Guide} {U lo mid hi : ℕ} → lo ≤ mid → mid ≤ hi → PassOf X G U mid hi g → PassOf X G U lo mid e → PassOf X G U lo hi r
 joins-pass {g} {e} {r} j {X} {G} {U} {lo} {mid} {hi} a b x y =
     let p = pass-join (setOf (g .quit)) (setOf (g .moved)) (setOf (g .parted)) (setOf (e .quit)) (setOf (e .moved)) (setOf (e .parted)) a b x y (j .quit) (j .moved) (j .parted) in
-    subst (λ (c : ℕ). Pass X G U lo hi c (setOf (r .quit)) (setOf (r .moved)) (setOf (r .parted))) (sym (j .clear)) p
+    subst (λ (c : ℕ). PassAlong X G U lo hi c (setOf (r .quit)) (setOf (r .moved)) (setOf (r .parted))) (sym (j .clear)) p
 
 module _ {Z E : ℕ → ℕ} {k : ℕ} {rows : List ℕ} {s : Sorts} where
   pub states-none : {hi : ℕ} (c : ℕ) {g : Gathered} → setOf (g .clear) ≡ c → setOf (g .quit) ≡ 0 → setOf (g .moved) ≡ 0 → setOf (g .parted) ≡ 0 → States Z E k rows s hi hi c g

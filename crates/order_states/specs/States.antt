@@ -8,13 +8,13 @@ use Rattle.shapes.specs.Shape.{Block}
 use Rattle.rows.specs.Row.{rowIn}
 use Rattle.row_paths.specs.Rows.{Zones}
 use Rattle.order_sides.specs.Guide.{Guide, Even}
-use Rattle.order_rows.specs.Rows.{Right, Sorted, Pass}
+use Rattle.order_rows.specs.Rows.{Right, Sorted, PassAlong}
 use Rattle.order_states.specs.declared.Sorts.{Sorts}
 use Rattle.order_states.specs.declared.Gathered.{Gathered}
 
 -- What the code carries, as the numbers that it stands for.
 abbrev pub PassOf : (ℕ → Block) → Guide → ℕ → ℕ → ℕ → Gathered → Type 0
-PassOf X G U lo hi g = Pass X G U lo hi (setOf (g .clear)) (setOf (g .quit)) (setOf (g .moved)) (setOf (g .parted))
+PassOf X G U lo hi g = PassAlong X G U lo hi (setOf (g .clear)) (setOf (g .quit)) (setOf (g .moved)) (setOf (g .parted))
 
 abbrev pub SortedAs : (ℕ → Block) → Guide → ℕ → ℕ → Sorts → Type 0
 SortedAs X G U q s = Sorted X G U q (setOf (s .same)) (setOf (s .apart)) (setOf (s .over))

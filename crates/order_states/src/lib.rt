@@ -50,14 +50,7 @@ pub fn joined(later: Gathered, earlier: Gathered) -> Gathered
 }
 
 // One state: the row of positions reached, and the positions from which some rest is on the right side at the next state.
-fn one_state(
-    zones: &[u64],
-    ends: &[u64],
-    k: usize,
-    s: Sorts,
-    row: Set,
-    clear: Set,
-) -> Gathered
+fn one_state(zones: &[u64], ends: &[u64], k: usize, s: Sorts, row: Set, clear: Set) -> Gathered
     requires { ⌜ (k ≤ rowCount (now zones)) × (k ≤ rowCount (now ends)) ⌝ }
     requires { ⌜ InTurn (rowIn (now zones)) (rowIn (now ends)) k ⌝ }
     ensures { λ r. ⌜ OneState (rowIn (now (zones .entry))) (rowIn (now (ends .entry))) k s (setOf row) (setOf clear) r ⌝ }
@@ -93,7 +86,10 @@ pub fn states(
     let mut q = hi;
     while lo < q {
         q -= 1;
-        g = joined(g, one_state(zones, ends, k, s, rows::row_at(rows, q), g.clear));
+        g = joined(
+            g,
+            one_state(zones, ends, k, s, rows::row_at(rows, q), g.clear),
+        );
     }
     g
 }

@@ -33,7 +33,8 @@ one-none n = record { some = λ e. true-false (sym e); none = λ e. n; kept = λ
 pub one-some : {P : List (List ℕ) → Type 0} {x out out′ : List ℕ} → OneNarrowed P x out out′ → One P x out out′ true
 one-some s = record { some = λ e. s; none = λ e. true-false e; kept = λ e. true-false e }
 
-one-map : {P Q : List (List ℕ) → Type 0} {x out out′ : List ℕ} {r : Bool} → ((f : List (List ℕ)) → Filling (shapeOf x) f → P f → Q f) → ((f : List (List ℕ)) → Filling (shapeOf x) f → Q f → P f)
+one-map : {P Q : List (List ℕ) → Type 0} {x out out′ : List ℕ} {r : Bool} → ((f : List (List ℕ)) → Filling (shapeOf x) f → P f → Q f)
+    → ((f : List (List ℕ)) → Filling (shapeOf x) f → Q f → P f)
     → One P x out out′ r → One Q x out out′ r
 one-map to from o = record {
   some = λ e. let s = o .some e in record { blocks = s .blocks; hull = same-rule to from (s .hull); words = s .words };

@@ -44,7 +44,7 @@ pub record Accepts (xs ys work ox oy work′ : List ℕ) : Type 0 where
   pub room : Room xs ys (length work) (length ox) (length oy)
   pub work-cleared : Cleared work work′
 
-pub record Refuses (xs ys work ox oy work′ ox′ oy′ : List ℕ) : Type 0 where
+pub record Untouched (xs ys work ox oy work′ ox′ oy′ : List ℕ) : Type 0 where
   pub work-kept : work′ ≡ work
   pub first-kept : ox′ ≡ ox
   pub second-kept : oy′ ≡ oy
@@ -53,4 +53,4 @@ abbrev pub NarrowPromise : (List ℕ → List ℕ → Type 0) → List ℕ → L
 NarrowPromise R xs ys work ox oy work′ ox′ oy′ Narrow = Accepts xs ys work ox oy work′ × Narrows R xs ys ox oy ox′ oy′
 NarrowPromise R xs ys work ox oy work′ ox′ oy′ no-pair = Accepts xs ys work ox oy work′ × NoPair R xs ys ox oy ox′ oy′
 NarrowPromise R xs ys work ox oy work′ ox′ oy′ (Refused r) =
-    NarrowRefused xs ys (length work) (length ox) (length oy) (told r) × Refuses xs ys work ox oy work′ ox′ oy′
+    NarrowRefused xs ys (length work) (length ox) (length oy) (told r) × Untouched xs ys work ox oy work′ ox′ oy′

@@ -101,7 +101,8 @@ block-of (b ∷ s) q h =
     (suc (w .0), record { below = omega arith; from = omega arith; before = omega arith }))
     (lt-or-le q (b .upper))
 
-past-all : (S : List Block) (q : ℕ) → total S ≤ q → slotAt S q ≡ past
+-- past all blocks
+pub past-all : (S : List Block) (q : ℕ) → total S ≤ q → slotAt S q ≡ past
 unfolding total slotAt
 past-all [] q h = refl
 past-all (b ∷ s) q h =

@@ -19,7 +19,7 @@ use Rattle.shapes.specs.Shape.{Block}
 use Rattle.rests.specs.Walk.{Path, Bounded, second}
 use Rattle.rests.proofs.Walks.{turn-path, path-from}
 use Rattle.rows.specs.Steps.{Leads, Lands}
-use Rattle.row_paths.specs.Rows.{Zones, BlockIn, Leaves, end, ended, taken, Quits, Takes, From, Seen, Used, Gathered}
+use Rattle.row_paths.specs.Rows.{Zones, BlockIn, LeadsOn, end, ended, taken, Quits, Takes, From, Seen, Used, Gathered}
 use Rattle.row_paths.proofs.Left.{left-row}
 use Rattle.row_paths.proofs.Forth.{slot-base, slot-lower, slot-upper}
 
@@ -93,7 +93,7 @@ module _ {X Y : ℕ → Block} {U W p : ℕ} {b : Block} (k : BlockIn X p b) (fi
 
   -- the run may end there
   pub leaves-free : (t stop : ℕ) {u : ℕ} → b .lower ≤ o → Exactly t (λ j. Meets (X (p + o) .base) (Y j .base) × Path X Y U W (p + o + 1) (j + 1))
-      → Exactly stop (λ j. Path X Y U W (p + b .upper) j) → u ≡ bitOr t stop → Exactly u (Leaves X Y U W (p + o))
+      → Exactly stop (λ j. Path X Y U W (p + b .upper) j) → u ≡ bitOr t stop → Exactly u (LeadsOn X Y U W (p + o))
   leaves-free t stop l x y e = exactly-as to from (either-exactly t stop e)
     where
       low : X (p + o) .lower ≡ 0
@@ -102,19 +102,19 @@ module _ {X Y : ℕ → Block} {U W p : ℕ} {b : Block} (k : BlockIn X p b) (fi
       at : p + b .upper ≡ p + o + X (p + o) .upper
       at = let a = slot-upper k o small in omega arith
 
-      to : (j : ℕ) → Holds t j ⊎ Holds stop j → Leaves X Y U W (p + o) j
+      to : (j : ℕ) → Holds t j ⊎ Holds stop j → LeadsOn X Y U W (p + o) j
       to j h = ⊎-elim (λ a. let w = x .so j a in taken (w .0) (w .1)) (λ a. ended low (subst (λ (i : ℕ). Path X Y U W i j) at (y .so j a))) h
 
-      from : (j : ℕ) → Leaves X Y U W (p + o) j → Holds t j ⊎ Holds stop j
+      from : (j : ℕ) → LeadsOn X Y U W (p + o) j → Holds t j ⊎ Holds stop j
       from j (end i f) = absurd (omega arith)
       from j (ended g w) = inr (y .mark j (subst (λ (i : ℕ). Path X Y U W i j) (sym at) w))
       from j (taken m w) = inl (x .mark j (m, w))
 
   -- it may not
-  pub leaves-bound : {t : ℕ} → o < b .lower → Exactly t (λ j. Meets (X (p + o) .base) (Y j .base) × Path X Y U W (p + o + 1) (j + 1)) → Exactly t (Leaves X Y U W (p + o))
+  pub leaves-bound : {t : ℕ} → o < b .lower → Exactly t (λ j. Meets (X (p + o) .base) (Y j .base) × Path X Y U W (p + o + 1) (j + 1)) → Exactly t (LeadsOn X Y U W (p + o))
   leaves-bound {t} l x = exactly-as (λ j w. taken (w .0) (w .1)) from x
     where
-      from : (j : ℕ) → Leaves X Y U W (p + o) j → Meets (X (p + o) .base) (Y j .base) × Path X Y U W (p + o + 1) (j + 1)
+      from : (j : ℕ) → LeadsOn X Y U W (p + o) j → Meets (X (p + o) .base) (Y j .base) × Path X Y U W (p + o + 1) (j + 1)
       from j (end i f) = absurd (omega arith)
       from j (ended g w) = let a = slot-lower k o small in absurd (omega arith)
       from j (taken m w) = (m, w)

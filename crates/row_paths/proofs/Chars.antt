@@ -12,7 +12,7 @@ use Rattle.shapes.specs.Shape.{Block}
 use Rattle.rests.specs.Walk.{Path, Bounded}
 use Rattle.rests.proofs.Walks.{turn-path}
 use Rattle.rows.specs.Steps.{Leads, Lands, Matched, Given}
-use Rattle.row_paths.specs.Rows.{Zones, Leaves, end, ended, taken, Quits, Takes, From, Seen, Used, Gives, Gathered}
+use Rattle.row_paths.specs.Rows.{Zones, LeadsOn, end, ended, taken, Quits, Takes, From, Seen, Used, Gives, Gathered}
 use Rattle.row_paths.proofs.Left.{left-row}
 use Rattle.row_paths.proofs.Back.{turn-takes, quits-here, used-none}
 use Rattle.row_paths.proofs.Told.{within-other}
@@ -116,7 +116,7 @@ module _ {X Y : ℕ → Block} {U W : ℕ} where
       own-moved-is = none-exactly zc (λ h v. no-takes (v .from) (v .has));
     }
       where
-        leaves : (j : ℕ) → Leaves X Y U W U j → j ≡ W
+        leaves : (j : ℕ) → LeadsOn X Y U W U j → j ≡ W
         leaves j (end i f) = f
         leaves j (ended g w) = let l = free U g in absurd (omega arith)
         leaves j (taken m w) = let l = held U (m .shared) (m .first) in absurd (omega arith)

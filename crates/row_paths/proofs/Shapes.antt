@@ -1,37 +1,30 @@
 -- A shape's blocks stand in its slots, and past them nothing is allowed. Assumes nothing.
-use mathlib.Core.Path.{_≡_, refl, sym, ap, _∙_, subst}
-use mathlib.Core.List.{List, [], _∷_}
+use mathlib.Core.Path.{_≡_, sym, ap, _∙_, subst}
+use mathlib.Core.List.{List}
 use mathlib.Core.Logic.{⊎-elim}
-use Prim.Native.Nat.{ℕ, _+_, _-_, _≤_, _<_}
+use Prim.Native.Nat.{ℕ, _+_, _≤_, _<_}
 use native.Mathlib.Omega.{arith}
 use lib.ListN.{length, getD, take}
 use Rattle.bases.specs.Base.{Holds, Empty}
 use Rattle.bases.proofs.Laws.{none-in-zero}
 use Rattle.bases.proofs.Plain.{lt-or-le}
 use Rattle.shapes.specs.Shape.{Block, noBlock, total}
-use Rattle.rests.specs.Walk.{slotAt, past, Bounded}
-use Rattle.rests.proofs.Laid.{slot-after, slots, in-slots, bounded}
+use Rattle.rests.specs.Walk.{slotAt}
+use Rattle.rests.proofs.Laid.{slots, in-slots, bounded}
 use Rattle.rests.proofs.Tight.{has-at, start-at, slots-take}
 use Rattle.rows.specs.Row.{rowIn}
 use Rattle.row_lay.specs.Lay.{Lay}
-use Rattle.row_lay.proofs.Laid.{zone-run, stop-is, run-zone, slot-base, in-slot}
+use Rattle.row_lay.proofs.Laid.{past-all, zone-run, stop-is, run-zone, slot-base, in-slot}
 use Rattle.row_paths.specs.Rows.{BlockIn, Zones}
 use Rattle.row_paths.proofs.Chars.{SlotRows}
 
-pub slot-past : (s : List Block) (h : ℕ) → total s ≤ h → slotAt s h ≡ past
-unfolding total slotAt
-slot-past [] h l = refl
-slot-past (b ∷ s) h l =
-    let k : ℕ = h - b .upper in
-    ap (slotAt (b ∷ s)) (let e : h ≡ b .upper + k = omega arith in e) ∙ slot-after b s k ∙ slot-past s k (omega arith)
-
 -- past all blocks no run may end and no character come
 pub free-within : (s : List Block) (h : ℕ) → slotAt s h .lower ≡ 0 → h < total s
-free-within s h e = ⊎-elim (λ c. c) (λ c. let z : _≡_ {A = ℕ} 1 0 = sym (ap (λ (b : Block). b .lower) (slot-past s h c)) ∙ e in absurd (omega arith)) (lt-or-le h (total s))
+free-within s h e = ⊎-elim (λ c. c) (λ c. let z : _≡_ {A = ℕ} 1 0 = sym (ap (λ (b : Block). b .lower) (past-all s h c)) ∙ e in absurd (omega arith)) (lt-or-le h (total s))
 
 pub held-within : (s : List Block) (h c : ℕ) → Holds (slotAt s h .base) c → h < total s
 unfolding Empty
-held-within s h c k = ⊎-elim (λ l. l) (λ l. absurd (none-in-zero c (subst (λ (b : Block). Holds (b .base) c) (slot-past s h l) k))) (lt-or-le h (total s))
+held-within s h c k = ⊎-elim (λ l. l) (λ l. absurd (none-in-zero c (subst (λ (b : Block). Holds (b .base) c) (past-all s h l) k))) (lt-or-le h (total s))
 
 pub block-in : (s : List Block) (i : ℕ) → i < length s → BlockIn (slotAt s) (total (take i s)) (getD s i noBlock)
 block-in s i l = record {

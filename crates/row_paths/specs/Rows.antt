@@ -39,10 +39,10 @@ pub record Stops (X Y : ℕ → Block) (p : ℕ) (b : Block) (o j : ℕ) : Type 
   pub reached : Path X Y (p + number) j 0 0
 
 -- From i and j one text leads to the ends, and not first by the end of a run of Y.
-pub data Leaves (X Y : ℕ → Block) (U W i j : ℕ) : Type 0 where
-  end : i ≡ U → j ≡ W → Leaves X Y U W i j
-  ended : X i .lower ≡ 0 → Path X Y U W (i + X i .upper) j → Leaves X Y U W i j
-  taken : Meets (X i .base) (Y j .base) → Path X Y U W (i + 1) (j + 1) → Leaves X Y U W i j
+pub data LeadsOn (X Y : ℕ → Block) (U W i j : ℕ) : Type 0 where
+  end : i ≡ U → j ≡ W → LeadsOn X Y U W i j
+  ended : X i .lower ≡ 0 → Path X Y U W (i + X i .upper) j → LeadsOn X Y U W i j
+  taken : Meets (X i .base) (Y j .base) → Path X Y U W (i + 1) (j + 1) → LeadsOn X Y U W i j
 
 -- Some pair of fillings with one text comes to h and j: there the run of X ends early, or both take one character.
 pub record Quits (X Y : ℕ → Block) (U W h j : ℕ) : Type 0 where

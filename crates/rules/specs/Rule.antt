@@ -8,15 +8,15 @@ use Rattle.rules.specs.declared.Rule.{Rule}
 abbrev pub ruleSize : ℕ
 ruleSize = 3
 
-abbrev pub ruleOf : ℕ → ℕ → ℕ → Rule
-ruleOf k a b = record { kind = k; a = a; b = b }
+abbrev pub ruleWith : ℕ → ℕ → ℕ → Rule
+ruleWith k a b = record { kind = k; a = a; b = b }
 
 abbrev pub numbersOf : Rule → List ℕ
 numbersOf r = r .kind ∷ (r .a ∷ (r .b ∷ []))
 
 -- Rule j, from 0, of lent numbers, and how many they are.
 abbrev pub ruleAt : List ℕ → ℕ → Rule
-ruleAt rules j = ruleOf (getD rules (j * ruleSize) 0) (getD rules (j * ruleSize + 1) 0) (getD rules (j * ruleSize + 2) 0)
+ruleAt rules j = ruleWith (getD rules (j * ruleSize) 0) (getD rules (j * ruleSize + 1) 0) (getD rules (j * ruleSize + 2) 0)
 
 abbrev pub ruleCount : List ℕ → ℕ
 ruleCount rules = length rules / ruleSize
@@ -30,4 +30,4 @@ unfoldable pub rulesOf : List ℕ → List Rule
 rulesOf [] = []
 rulesOf (k ∷ []) = []
 rulesOf (k ∷ (a ∷ [])) = []
-rulesOf (k ∷ (a ∷ (b ∷ xs))) = ruleOf k a b ∷ rulesOf xs
+rulesOf (k ∷ (a ∷ (b ∷ xs))) = ruleWith k a b ∷ rulesOf xs

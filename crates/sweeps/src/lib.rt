@@ -72,7 +72,11 @@ fn push_all(x: &[u64], y: &[u64], kept: &mut [u64]) -> Passed
             offset: Offset(offset),
         };
         let next = i as u64 + 1;
-        let r = sweep_blocks::push(sweep_blocks::block(x, BlockNumber(next)), y, sweep_blocks::later(held, end));
+        let r = sweep_blocks::push(
+            sweep_blocks::block(x, BlockNumber(next)),
+            y,
+            sweep_blocks::later(held, end),
+        );
         looks += r.looks;
         if r.left != 0 {
             return Passed::Stuck(looks);

@@ -10,7 +10,7 @@ use Rattle.bases.specs.Base.{Empty}
 use Rattle.bases.proofs.Laws.{empty-zero, none-in-zero}
 use Rattle.shapes.specs.All.{All, more}
 use Rattle.shapes.specs.Shape.{Block, Sound}
-use Rattle.reckoning.specs.Equal.{and}
+use Rattle.equal_reckoning.specs.Equal.{and}
 
 unfoldable pub positive : ℕ → Bool
 positive zero = false

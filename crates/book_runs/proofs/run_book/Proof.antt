@@ -10,10 +10,10 @@ use Rattle.shapes.specs.Lent.{Numbers, shapeOf, wordsOf}
 use Rattle.shapes.proofs.All.{all-of}
 use Rattle.shapes.proofs.Numbers.{words-shape}
 use Rattle.books.specs.Refused.{BookAccepted, BookChecked}
-use Rattle.laying.specs.Laid.{replaced}
+use Rattle.book_laying.specs.Laid.{replaced}
 use Rattle.book_steps.specs.Step.{Standing}
 use Rattle.book_runs.specs.Runner.{EndedSays}
-use Rattle.laying.proofs.Laid.{front-back, all-over}
+use Rattle.book_laying.proofs.Laid.{front-back, all-over}
 use Rattle.book_steps.proofs.Standing.{standing-first, few-blocks}
 use Rattle.book_runs.proofs.run_book.Statement.{statement}
 use Rattle.book_runs.proofs.run_book.Tie as tie

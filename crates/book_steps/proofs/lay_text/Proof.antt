@@ -5,8 +5,8 @@ use native.Mathlib.Omega.{arith}
 use lib.ListN.{length, take, drop, length-drop}
 use lib.Seq.{length-take-le}
 use Rattle.bases.proofs.Tells.{tells-true, tells-false}
-use Rattle.laying.specs.Laid.{replaced}
-use Rattle.laying.proofs.Laid.{stood-there}
+use Rattle.book_laying.specs.Laid.{replaced}
+use Rattle.book_laying.proofs.Laid.{stood-there}
 use Rattle.book_steps.proofs.Texts.{at, taken-is, laid-is, compared}
 use borrow.Author.Needs.{needs}
 use Rattle.book_steps.proofs.lay_text.Statement.{statement}

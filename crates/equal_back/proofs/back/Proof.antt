@@ -43,8 +43,7 @@ total-upper-requires-2 c κs = let short = c .before .before .before .before .be
 
 loop-holds : tie.Need-loop-holds Inv-loop μ-loop
 loop-holds c =
-    let s = c .before .before .before .before .before .before .before .before .before .before .before .before .before in
-    (
+    let s = c .before .before .before .before .before .before .before .before .before .before .before .before .before in (
       search needs,
       search needs,
       search needs,
@@ -114,8 +113,7 @@ loop-again c =
     let g = c .before .before .before .give .ensures in
     let u = c .before .before .before .before .before .before .before .put-row .ensures in
     let w = within (c .before .before .before .before .before .before .before .before .before .before .before .before .before .before) in
-    let t = c .before .before .before .before .before .before .before .before .before .before .before .before .before .before .before .loop-test .taken in
-    (
+    let t = c .before .before .before .before .before .before .before .before .before .before .before .before .before .before .before .loop-test .taken in (
       l .inv .0,
       omega arith,
       u .long ∙ l .inv .2,

@@ -55,11 +55,12 @@ forth-block-requires c κs =
     let l = c .before .before .before .before .before .before .before .before .loop in
     let s = c .before .before .before .before .before .before .before .before .before .before .before .before .before .before .before .before .before in
     let k = l .inv .1 in
-    let room = s .pre .1 .1 .0 in
-    (
+    let room = s .pre .1 .1 .0 in (
       (omega arith, omega arith),
-      (subst (InTurn (rowIn (s .args .zones .now)) (rowIn (s .args .ends .now))) (sym k) (in-turn-of (s .args .y .now) (s .pre .1 .0)),
-      (within (c .before .before .before .before .before .before), l .inv .4 ∙ s .pre .1 .1 .1 .1)),
+      (
+        subst (InTurn (rowIn (s .args .zones .now)) (rowIn (s .args .ends .now))) (sym k) (in-turn-of (s .args .y .now) (s .pre .1 .0)),
+        (within (c .before .before .before .before .before .before), l .inv .4 ∙ s .pre .1 .1 .1 .1),
+      ),
     )
 
 add-p : tie.Need-add-p Inv-loop μ-loop
@@ -78,8 +79,7 @@ loop-again c =
     let f = c .before .before .forth-block .ensures in
     let m = c .before .before .before .before .before .before .put-row .ensures in
     let n = l .inv .0 in
-    let y = s .args .y .now in
-    (
+    let y = s .args .y .now in (
       l .inv .0,
       l .inv .1,
       omega arith,
@@ -118,8 +118,7 @@ returns c =
     let l = c .before .before .before .before .before .before .loop in
     let s = c .before .before .before .before .before .before .before .before .before .before .before .before .before .before .before in
     let u = c .before .before .put-row2 .ensures in
-    let n = l .inv .0 in
-    (
+    let n = l .inv .0 in (
       pass-all (omega arith) (zones-at (s .args .y .now) (l .inv .1) (s .pre .1 .0) (s .pre .0 .1 .short)) (l .inv .5) (c .before .before .before .before .forth .ensures) u,
       (l .inv .3, u .long ∙ l .inv .4),
     )

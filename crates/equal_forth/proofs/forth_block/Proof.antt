@@ -5,7 +5,7 @@ use native.Mathlib.Omega.{arith}
 use Rattle.sets.specs.Set.{setOf}
 use Rattle.shapes.specs.Lent.{meant}
 use Rattle.rows.specs.Row.{rowIn}
-use Rattle.equal_forth.specs.Forth.{RowsTo, BlockRows, Follows, Before}
+use Rattle.equal_forth.specs.Forth.{RowsTo, BlockRows, Follows, RowsKept}
 use Rattle.equal_forth.proofs.Rows.{rows-none, rows-more, rows-block, rows-end, before-none, before-more}
 use borrow.Author.Needs.{needs}
 use Rattle.equal_forth.proofs.forth_block.Statement.{statement}
@@ -13,7 +13,7 @@ use Rattle.equal_forth.proofs.forth_block.Tie as tie
 
 abbrev Inv-loop : tie.InvT-loop
 Inv-loop zones ends k mine b p rows₀ upper enter₀ stopped₀ o₀ rows enter stopped o =
-    (upper ≡ b .upper) × (o ≤ upper) × Before p rows₀ rows
+    (upper ≡ b .upper) × (o ≤ upper) × RowsKept p rows₀ rows
     × Follows (rowIn zones) (rowIn ends) k (setOf mine) p (meant b) (setOf enter₀) (λ X Y. RowsTo X Y p (meant b) o rows (setOf enter) (setOf stopped))
 
 abbrev μ-loop : tie.MeasureT-loop
@@ -54,8 +54,7 @@ loop-again c =
     let w = c .before .before in
     let u = w .before .before .before .before in
     let t = u .before .before in
-    let l = t .before .before .loop in
-    (
+    let l = t .before .before .loop in (
       search needs,
       omega arith,
       before-more (omega arith) (l .inv .2) (u .put-row .ensures),

@@ -3,12 +3,12 @@ use mathlib.Core.Path.{_≡_, refl, sym, _∙_, subst}
 use mathlib.Core.List.{List}
 use Prim.Native.Nat.{ℕ, _+_}
 use native.Mathlib.Omega.{arith}
-use Rattle.book_lines.proofs.Read.{rest-of}
-use Rattle.sections.specs.declared.Section.the-variants.{Read}
-use Rattle.sections.specs.Steps.{DepartsFrom}
-use Rattle.sections.specs.Steps.State.{counts}
-use Rattle.sections.proofs.Steps.{counts-kind}
-use Rattle.sections.proofs.Sections.{texts-head, after-section}
+use Rattle.file_lines.proofs.Read.{rest-of}
+use Rattle.file_sections.specs.declared.Section.the-variants.{Read}
+use Rattle.file_sections.specs.Steps.{DepartsFrom}
+use Rattle.file_sections.specs.Steps.State.{counts}
+use Rattle.file_sections.proofs.Steps.{counts-kind}
+use Rattle.file_sections.proofs.Sections.{texts-head, after-section}
 use Rattle.files.specs.Departs.{Departs}
 use Rattle.files.specs.Departs.FileRefused.{large, departs}
 use Rattle.files.specs.Parts.{TextsSeen, TailRead}

@@ -1,7 +1,7 @@
 -- `files::read_last`: the rules, and that nothing follows them. Assumes nothing.
 use mathlib.Core.Path.{subst}
 use native.Mathlib.Omega.{arith}
-use Rattle.sections.specs.declared.Section.the-variants.{Read}
+use Rattle.file_sections.specs.declared.Section.the-variants.{Read}
 use Rattle.files.specs.Parts.{RulesSeen}
 use Rattle.files.proofs.Seen.{rules-section-seen}
 use Rattle.files.proofs.Whole.{trailing, at-end}

@@ -3,12 +3,12 @@ use mathlib.Core.Path.{sym, _∙_, subst}
 use mathlib.Core.List.{List}
 use Prim.Native.Nat.{ℕ}
 use native.Mathlib.Omega.{arith}
-use Rattle.book_lines.proofs.Read.{rest-of}
-use Rattle.sections.specs.declared.Section.the-variants.{Read}
-use Rattle.sections.specs.Steps.{DepartsFrom}
-use Rattle.sections.specs.Steps.State.{blocks}
-use Rattle.sections.proofs.Steps.{blocks-kind}
-use Rattle.sections.proofs.Sections.{blocks-head, after-section}
+use Rattle.file_lines.proofs.Read.{rest-of}
+use Rattle.file_sections.specs.declared.Section.the-variants.{Read}
+use Rattle.file_sections.specs.Steps.{DepartsFrom}
+use Rattle.file_sections.specs.Steps.State.{blocks}
+use Rattle.file_sections.proofs.Steps.{blocks-kind}
+use Rattle.file_sections.proofs.Sections.{blocks-head, after-section}
 use Rattle.files.specs.Parts.{BlocksSeen, LastRead}
 use Rattle.files.proofs.Seen.{blocks-section-seen}
 use Rattle.files.proofs.Whole.{joined-on}

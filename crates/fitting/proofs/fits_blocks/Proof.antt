@@ -11,7 +11,7 @@ use Rattle.sets.proofs.Exact.{both-exactly, held-under}
 use Rattle.shapes.specs.Shape.{Block, Sound}
 use Rattle.shapes.specs.Lent.{shapeOf, meant}
 use Rattle.shapes.proofs.Lent.{shape-from, none-left, block-sound}
-use Rattle.fitting.specs.Rows.{Marked, Seen, Row}
+use Rattle.fitting.specs.Rows.{Marked, SeenTo, Row}
 use Rattle.fitting.proofs.Rows.{row-last}
 use Rattle.fitting.proofs.Marks.{held-places}
 use Rattle.fitting.proofs.fits_blocks.Statement.{statement}
@@ -22,7 +22,7 @@ block-then s p q e = sym (e ∙ (λ m. sym p m ∷ drop (q m) s))
 
 abbrev Inv-loop : tie.InvT-loop
 Inv-loop shape text marks seen row₀ i₀ row i =
-    (i ≤ length shape / 4) × Marked text marks × Seen text (length text) (setOf seen) × Row (drop i (shapeOf shape)) text (setOf row)
+    (i ≤ length shape / 4) × Marked text marks × SeenTo text (length text) (setOf seen) × Row (drop i (shapeOf shape)) text (setOf row)
 
 abbrev μ-loop : tie.MeasureT-loop
 μ-loop shape text marks seen row₀ i₀ row i = i

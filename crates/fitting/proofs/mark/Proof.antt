@@ -5,13 +5,13 @@ use native.Mathlib.Omega.{arith}
 use borrow.Author.Needs.{needs}
 use lib.ListN.{length}
 use Rattle.sets.specs.Set.{setOf}
-use Rattle.fitting.specs.Rows.{Noted, Seen}
+use Rattle.fitting.specs.Rows.{Noted, SeenTo}
 use Rattle.fitting.proofs.Marks.{noted-none, noted-rows}
 use Rattle.fitting.proofs.mark.Statement.{statement}
 use Rattle.fitting.proofs.mark.Tie as tie
 
 abbrev Inv-loop : tie.InvT-loop
-Inv-loop text marks₀ seen₀ p₀ marks seen p = (p ≤ length text) × (length text ≤ 250) × Noted text p marks × Seen text p (setOf seen)
+Inv-loop text marks₀ seen₀ p₀ marks seen p = (p ≤ length text) × (length text ≤ 250) × Noted text p marks × SeenTo text p (setOf seen)
 
 abbrev μ-loop : tie.MeasureT-loop
 μ-loop text marks₀ seen₀ p₀ marks seen p = length text - p
@@ -48,7 +48,7 @@ returns c =
     let l = c .before .loop in
     let t = c .before .before .before .before .args .text .now in
     let end : l .p ≡ length t = omega arith in
-    (noted-rows t _ (omega arith) (subst (λ (k : ℕ). Noted t k (l .marks)) end (l .inv .2)), subst (λ (k : ℕ). Seen t k (setOf (l .seen))) end (l .inv .3))
+    (noted-rows t _ (omega arith) (subst (λ (k : ℕ). Noted t k (l .marks)) end (l .inv .2)), subst (λ (k : ℕ). SeenTo t k (setOf (l .seen))) end (l .inv .3))
 
 pub mark-spec : {M : Type 1} → statement M
 mark-spec =

@@ -6,7 +6,7 @@ use mathlib.Core.Path.{sym, subst, _∙_}
 use native.Mathlib.Omega.{arith}
 use lib.ListN.{length}
 use lib.Seq.{length-take-le}
-use Rattle.narrow.specs.Within.{Within}
+use Rattle.narrow.specs.Within.{ReadWithin}
 use Rattle.narrow.proofs.read_more.Statement.{statement}
 use Rattle.narrow.proofs.read_more.Tie as tie
 
@@ -43,7 +43,7 @@ room c =
     let a = q .before .before .before .args in
     let within = q .before .before .before .pre in
     let part = q .read-some .kept .0 ∙ mid-len {X = ℕ} (a .done) (length (a .buffer .now)) (a .buffer .now) (omega arith) in
-    let few = subst (Within _) (c .before .more .given .1) (q .read-some .ensures) .0 in
+    let few = subst (ReadWithin _) (c .before .more .given .1) (q .read-some .ensures) .0 in
     omega arith
 
 add-t6 : tie.Need-add-t6

@@ -19,6 +19,10 @@ Inv-loop d strict x zones ends slots u text m rows n chars₀ g₀ hi₀ chars g
 abbrev μ-loop : tie.MeasureT-loop
 μ-loop d strict x zones ends slots u text m rows n chars₀ g₀ hi₀ chars g hi = hi
 
+-- where the function began, from its loop
+abbrev start : tie.At-loop Inv-loop μ-loop → tie.Start Inv-loop μ-loop
+start l = l .before .before .before .before .before .before .before .before .before .before .before
+
 none-requires : tie.Need-none-requires Inv-loop μ-loop
 none-requires c κs = search needs
 
@@ -33,32 +37,34 @@ loop-holds c =
     let s = c .before .before .before .before .before .before .before .before .before .before in
     let t = c .top .ensures in
     let n = c .before .nothing .ensures in
-    (t .0 .0, t .0 .1, refl, gathers-none (top-limit (s .pre .0 .plain .within) (s .pre .1 .0) (t .1 .0) (t .1 .1)) (c .before .before .none .ensures) (n .0) (n .1) (n .2) (n .3) (s .pre .1 .1))
+    let limit = top-limit (s .pre .0 .plain .within) (s .pre .1 .0) (t .1 .0) (t .1 .1) in
+    (t .0 .0, t .0 .1, refl, gathers-none limit (c .before .before .none .ensures) (n .0) (n .1) (n .2) (n .3) (s .pre .1 .1))
 
 steady-from-requires : tie.Need-steady-from-requires Inv-loop μ-loop
-steady-from-requires c κs = (c .before .before .before .before .before .before .before .before .before .before .before .before .pre .0 .plain, (c .loop-test .taken, c .before .loop .inv .0))
+steady-from-requires c κs = let l = c .before in (start l .pre .0 .plain, (c .loop-test .taken, l .loop .inv .0))
 
 group-requires : tie.Need-group-requires Inv-loop μ-loop
 group-requires c κs =
-    let s = c .before .before .before .before .before .before .before .before .before .before .before .before .before .before .before in
-    let r = s .pre .0 in
-    let l = c .before .before .before .before .loop .inv in
-    let w = l .0 in
-    let v = l .1 in
+    let l = c .before .before .before .before in
+    let r = start l .pre .0 in
+    let w = l .loop .inv .0 in
+    let v = l .loop .inv .1 in
+    let long = l .loop .inv .2 in
     let short = r .short in
     let room = r .room in
-    let long = l .2 in
-    let t = c .before .before .steady-from .ensures in
-    (
+    let t = c .before .before .steady-from .ensures in (
       record { laid = r .laid; size = r .size; plain = r .plain; short = r .short; rows-long = r .rows-long; room = omega arith },
-      ((t .0, omega arith), (rows-upto (omega arith) (s .pre .1 .0 .matched), (t .1 _ _, l .3 .pass .rests))),
+      ((t .0, omega arith), (rows-upto (omega arith) (start l .pre .1 .0 .matched), (t .1 _ _, l .loop .inv .3 .pass .rests))),
     )
 
 joined-requires : tie.Need-joined-requires Inv-loop μ-loop
 joined-requires c κs = search needs
 
 loop-less : tie.Need-loop-less Inv-loop μ-loop
-loop-less c = c .before .before .before .before .before .before .steady-from .ensures .0
+loop-less c =
+    let t = c .before .before .before .before .before .before .steady-from .ensures .0 in
+    let h = c .before .before .before .before .before .before .before .loop-test .taken in
+    omega arith
 
 loop-again : tie.Need-loop-again Inv-loop μ-loop
 loop-again c =

@@ -30,10 +30,10 @@ sorted-requires c κs =
 
 states-requires : tie.Need-states-requires
 states-requires c κs =
-    let r = c .before .before .before .before .before .before .before .before .before .before .before .pre .0 in
-    let b = c .before .before .before .before .before .before .before .before .before .before .before .pre .1 .0 in
-    let lo = b .0 in
-    let hi = b .1 in
+    let s = c .before .before .before .before .before .before .before .before .before .before .before in
+    let r = s .pre .0 in
+    let lo = s .pre .1 .0 .0 in
+    let hi = s .pre .1 .0 .1 in
     let z = r .laid .zones-long in
     let e = r .laid .ends-long in
     let w = r .rows-long in
@@ -59,13 +59,18 @@ same-length c = search needs
 
 returns : tie.Need-returns
 returns c =
-    let t = c .before .before .before .before .before .before .before .before .before .before .before .before .before .before .before .before .before .before .before .before in
-    let r = t .pre .0 in
-    let b = t .pre .1 .0 in
-    let lo = b .0 in
-    group-done (r .laid) refl (omega arith) (omega arith) (c .before .before .before .before .before .before .before .before .before .before .before .before .same-at .ensures) (c .before .before .before .before .before .before .before .before .before .before .before .apart-at .ensures)
-    (c .before .before .before .before .before .before .before .before .before .before .may-end .ensures (take (t .args .m) (t .args .text .now)) (taken-length _ _ (r .plain .within))) (c .before .before .before .before .before .before .before .before .before .sorted .ensures) (t .pre .1 .1 .1 .0) (t .pre .1 .1 .0)
-    (t .pre .1 .1 .1 .1) (c .before .before .before .before .before .before .before .before .states .ensures) (c .before .before .before .before .before .before .give-some .ensures) (c .before .before .give-some2 .ensures)
+    let g = c .before .before .before .before .before .before in
+    let t = g .before .before in
+    let o = t .before in
+    let m = o .before in
+    let a = m .before in
+    let b = a .before in
+    let s = b .before .before .before .before .before .before .before .before in
+    let r = s .pre .0 in
+    let lo = s .pre .1 .0 .0 in
+    group-done (r .laid) refl (omega arith) (omega arith) (b .same-at .ensures) (a .apart-at .ensures)
+    (m .may-end .ensures (take (s .args .m) (s .args .text .now)) (taken-length _ _ (r .plain .within))) (o .sorted .ensures)
+    (s .pre .1 .1 .1 .0) (s .pre .1 .1 .0) (s .pre .1 .1 .1 .1) (t .states .ensures) (g .give-some .ensures) (c .before .before .give-some2 .ensures)
 
 pub group-spec : {M : Type 1} → statement M
 group-spec =

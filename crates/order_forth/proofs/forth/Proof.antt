@@ -1,7 +1,8 @@
 -- `order_forth::forth`: each row is the closure of the row before, one character on; past an empty row there is none. Assumes nothing.
 use native.Mathlib.Omega.{arith}
-use mathlib.Core.Path.{refl, sym, _∙_}
+use mathlib.Core.Path.{_≡_, refl, sym, _∙_}
 use Prim.Native.Nat.{_-_}
+use lib.ListN.{length}
 use Rattle.sets.specs.Set.{setOf}
 use Rattle.order_rows.proofs.Laid.{laid-turn}
 use Rattle.order_forth.specs.Forth.{ForthTo}
@@ -15,6 +16,13 @@ Inv-loop x zones ends slots text m rows₀ k row₀ mask₀ q₀ rows row mask q
 
 abbrev μ-loop : tie.MeasureT-loop
 μ-loop x zones ends slots text m rows₀ k row₀ mask₀ q₀ rows row mask q = m - q
+
+-- where the function began, from its loop
+abbrev start : tie.At-loop Inv-loop μ-loop → tie.Start Inv-loop μ-loop
+start l = l .before .before .before .before .before .before .before .before .before .before .before .before .before .before
+
+long : (l : tie.At-loop Inv-loop μ-loop) → length (l .loop .rows) ≡ length (start l .args .rows .now)
+long l = l .loop .inv .long ∙ sym (start l .pre .1 .1)
 
 single-requires : tie.Need-single-requires Inv-loop μ-loop
 single-requires c κs = search needs
@@ -33,24 +41,28 @@ none-requires : tie.Need-none-requires Inv-loop μ-loop
 none-requires c κs = search needs
 
 loop-holds : tie.Need-loop-holds Inv-loop μ-loop
-loop-holds c = forth-first (c .before .before .before .before .before .before .before .before .before .before .before .before .before .pre .0) _ _ refl (c .before .before .before .before .before .before .before .before .before .before .before .before .before .pre .1 .1) (c .before .before .before .before .before .before .single .ensures) (c .before .before .before .before .before .forth .ensures) (c .before .before .before .put-row .ensures)
+loop-holds c =
+    let p = c .before .before .before in
+    let f = p .before .before in
+    let o = f .before in
+    let s = o .before .before .before .before .before .before .before in
+    forth-first (s .pre .0) _ _ refl (s .pre .1 .1) (o .single .ensures) (f .forth .ensures) (p .put-row .ensures)
 
 is-empty-requires : tie.Need-is-empty-requires Inv-loop μ-loop
 is-empty-requires c κs = search needs
 
 same-length : tie.Need-same-length Inv-loop μ-loop
-same-length c = c .before .before .before .loop .inv .long ∙ sym (c .before .before .before .before .before .before .before .before .before .before .before .before .before .before .before .before .before .pre .1 .1)
+same-length c = long (c .before .before .before)
 
 returns : tie.Need-returns Inv-loop μ-loop
-returns c = (forth-empty (c .before .before .before .loop .inv) (c .before .is-empty .ensures .so (c .if1 .taken)), c .before .before .before .loop .inv .long ∙ sym (c .before .before .before .before .before .before .before .before .before .before .before .before .before .before .before .before .before .pre .1 .1))
+returns c = (forth-empty (c .before .before .before .loop .inv) (c .before .is-empty .ensures .so (c .if1 .taken)), long (c .before .before .before))
 
 next-mask-requires : tie.Need-next-mask-requires Inv-loop μ-loop
 next-mask-requires c κs =
-    let l = c .before .before .before .loop in
-    let s = c .before .before .before .before .before .before .before .before .before .before .before .before .before .before .before .before .before in
-    let d = l .inv .blocks in
-    let w = s .pre .0 .slots-long in
-    ((omega arith, omega arith), ((s .pre .1 .0 .0, c .before .before .loop-test .taken), l .inv .masked))
+    let l = c .before .before .before in
+    let d = l .loop .inv .blocks in
+    let w = start l .pre .0 .slots-long in
+    ((omega arith, omega arith), ((start l .pre .1 .0 .0, c .before .before .loop-test .taken), l .loop .inv .masked))
 
 both-requires : tie.Need-both-requires Inv-loop μ-loop
 both-requires c κs = search needs
@@ -60,33 +72,46 @@ up-requires c κs = search needs
 
 forth-requires-2 : tie.Need-forth-requires-2 Inv-loop μ-loop
 forth-requires-2 c κs =
-    let s = c .before .before .before .before .before .before .before .before .before .before .before .before .before .before .before .before .before .before .before .before in
-    let d = c .before .before .before .before .before .before .loop .inv .blocks in
-    let z = s .pre .0 .zones-long in
-    let e = s .pre .0 .ends-long in
-    ((omega arith, omega arith), laid-turn (s .pre .0) d)
+    let l = c .before .before .before .before .before .before in
+    let d = l .loop .inv .blocks in
+    let z = start l .pre .0 .zones-long in
+    let e = start l .pre .0 .ends-long in
+    ((omega arith, omega arith), laid-turn (start l .pre .0) d)
 
 add-q : tie.Need-add-q Inv-loop μ-loop
-add-q c = let m = c .before .before .before .before .before .before .before .before .before .before .before .before .before .before .before .before .before .before .before .before .before .pre .1 .0 .1 in let t = c .before .before .before .before .before .before .loop-test .taken in omega arith
+add-q c =
+    let t = c .before .before .before .before .before .before in
+    let h = t .loop-test .taken in
+    let short = start (t .before) .pre .1 .0 .1 in
+    omega arith
 
 put-row-requires-2 : tie.Need-put-row-requires-2 Inv-loop μ-loop
 put-row-requires-2 c κs =
-    let l = c .before .before .before .before .before .before .before .before .loop .inv .long in
-    let m = c .before .before .before .before .before .before .before .before .before .before .before .before .before .before .before .before .before .before .before .before .before .before .pre .1 .0 .1 in
-    let t = c .before .before .before .before .before .before .before .loop-test .taken in
+    let t = c .before .before .before .before .before .before .before in
+    let h = t .loop-test .taken in
+    let w = t .before .loop .inv .long in
+    let short = start (t .before) .pre .1 .0 .1 in
     omega arith
 
 loop-less : tie.Need-loop-less Inv-loop μ-loop
 loop-less c = let t = c .before .before .before .before .before .before .before .before .before .before .loop-test .taken in omega arith
 
 loop-again : tie.Need-loop-again Inv-loop μ-loop
-loop-again c = forth-more (c .before .before .before .before .before .before .before .before .before .before .before .before .before .before .before .before .before .before .before .before .before .before .before .before .before .pre .0) _ _ (c .before .before .before .before .before .before .before .before .before .before .before .loop .inv) (c .before .before .before .before .before .before .before .before .before .before .loop-test .taken) refl (c .before .before .before .before .before .before .before .next-mask .ensures) (c .before .before .before .before .before .before .both .ensures) (c .before .before .before .before .before .up .ensures) (c .before .before .before .before .forth2 .ensures) (c .before .before .put-row2 .ensures)
+loop-again c =
+    let p = c .before .before in
+    let f = p .before .before in
+    let u = f .before in
+    let m = u .before .before in
+    let t = m .before .before .before in
+    let l = t .before in
+    forth-more (start l .pre .0) _ _ (l .loop .inv) (t .loop-test .taken) refl
+    (m .next-mask .ensures) (u .before .both .ensures) (u .up .ensures) (f .forth2 .ensures) (p .put-row2 .ensures)
 
 same-length-2 : tie.Need-same-length-2 Inv-loop μ-loop
-same-length-2 c = c .before .loop .inv .long ∙ sym (c .before .before .before .before .before .before .before .before .before .before .before .before .before .before .before .pre .1 .1)
+same-length-2 c = long (c .before)
 
 returns-2 : tie.Need-returns-2 Inv-loop μ-loop
-returns-2 c = (forth-whole (c .before .loop .inv) (c .loop-test .left), c .before .loop .inv .long ∙ sym (c .before .before .before .before .before .before .before .before .before .before .before .before .before .before .before .pre .1 .1))
+returns-2 c = (forth-whole (c .before .loop .inv) (c .loop-test .left), long (c .before))
 
 pub forth-spec : {M : Type 1} → statement M
 forth-spec =

@@ -16,8 +16,9 @@ shared-slice-read-if2-2 c = search needs
 
 returns : tie.Need-returns
 returns c =
-    let s = c .before .before .before .before .before .before .before in
-    same-mask (next-same _ _ _ (s .pre .1 .0 .0) (c .before .before .before .if1 .taken) (s .pre .1 .0 .1) (c .if2 .taken)) (s .pre .1 .1 (c .before .before .before .if1 .taken))
+    let i = c .before .before .before in
+    let s = i .before .before .before .before in
+    same-mask (next-same _ _ _ (s .pre .1 .0 .0) (i .if1 .taken) (s .pre .1 .0 .1) (c .if2 .taken)) (s .pre .1 .1 (i .if1 .taken))
 
 same-at-requires : tie.Need-same-at-requires
 same-at-requires c κs = search needs

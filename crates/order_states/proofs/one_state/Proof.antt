@@ -28,10 +28,12 @@ both-requires-4 c κs = search needs
 
 returns : tie.Need-returns
 returns c =
-    let s = c .before .before .before .before .before .before .before .before .before .before .args in
+    let b = c .before .before .before .before in
+    let s = b .before .before .before .before .before .before .args in
     record {
       holds = λ X G U q z g v o. pass-state (setOf (s .clear)) (setOf (s .s .same)) (setOf (s .s .apart)) (setOf (s .s .over)) (setOf (s .row)) q z g v o
-          (c .before .before .before .before .before .before .before .down .ensures) (c .before .before .before .before .before .before .both .ensures) (c .before .before .before .before .before .either .ensures) (c .before .before .before .before .back .ensures .0) (c .before .before .before .before .back .ensures .1) (c .before .before .both2 .ensures) (c .before .both3 .ensures) (c .both4 .ensures);
+          (b .before .before .before .down .ensures) (b .before .before .both .ensures) (b .before .either .ensures) (b .back .ensures .0) (b .back .ensures .1)
+          (c .before .before .both2 .ensures) (c .before .both3 .ensures) (c .both4 .ensures);
     }
 
 pub one-state-spec : {M : Type 1} → statement M

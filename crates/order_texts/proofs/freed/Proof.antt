@@ -55,12 +55,14 @@ same-length c = search needs
 
 returns-2 : tie.Need-returns-2
 returns-2 c =
-    let g = c .before .before .before .before .before .before .give .ensures in
-    (
-      freed-from (c .before .before .before .before .before .before .before .before .before .before .before .before .first .ensures .0) (c .before .before .before .before .before .before .before .before .before .before .before .between .ensures) (c .before .before .before .before .before .before .before .before .before .before .below .ensures) (c .before .before .before .before .before .before .before .before .before .back .ensures .0) (c .before .before .before .before .before .before .before .before .before .back .ensures .1) (c .before .before .before .both .ensures) (c .before .before .either .ensures)
-      (c .before .down .ensures) (c .either2 .ensures) (c .before .before .before .before .before .before .before .before .below2 .ensures) (g .0),
-      g .1,
-    )
+    let g = c .before .before .before .before .before .before in
+    let a = g .before .before in
+    let b = a .before in
+    let n = b .before in
+    let d = n .before in
+    let known = freed-from (d .before .first .ensures .0) (d .between .ensures) (n .below .ensures) (b .back .ensures .0) (b .back .ensures .1)
+    (c .before .before .before .both .ensures) (c .before .before .either .ensures) (c .before .down .ensures) (c .either2 .ensures) (a .below2 .ensures) (g .give .ensures .0) in
+    (known, g .give .ensures .1)
 
 pub freed-spec : {M : Type 1} → statement M
 freed-spec =

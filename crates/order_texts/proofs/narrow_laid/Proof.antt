@@ -1,9 +1,12 @@
 -- `order_texts::narrow_laid`: the first row tells whether some text is on the right side; if so, all is known of each block. Assumes nothing.
 use native.Mathlib.Omega.{arith}
-use mathlib.Core.Path.{refl, ap, _∙_}
+use mathlib.Core.Path.{_≡_, refl, ap, _∙_}
+use mathlib.Core.Bool.{true}
 use Prim.Native.Nat.{ℕ}
 use borrow.Author.Tests.{not-true, not-false}
 use lib.ListN.{length, length-replicate}
+use Rattle.bases.specs.Base.{Holds}
+use Rattle.sets.specs.Set.{setOf}
 use Rattle.shapes.specs.All.{All}
 use Rattle.shapes.specs.Shape.{Small}
 use Rattle.shapes.specs.Lent.{shapeOf}
@@ -19,6 +22,14 @@ use Rattle.order_texts.proofs.narrow_laid.Tie as tie
 
 small : (c : tie.After-shared-slice-known) → All Small (shapeOf (c .before .args .x .now))
 small c = small-bases _ (all-of (c .before .args .x .now) 0 (λ i h. c .shared-slice-known .given i .fits))
+
+-- where the function began, from where all states are gathered
+abbrev start : tie.After-gather → tie.Start
+start g = g .before .before .before .before .before .before .before .before .before .before .before .before .before .before
+
+-- some text is on the right side, if the first row says so
+first : (h : tie.After-has) → h .has .result ≡ true → Holds (setOf (h .before .before .gather .result .clear)) 0
+first h e = h .has .ensures .so e
 
 blank-rows-requires : tie.Need-blank-rows-requires
 blank-rows-requires c κs = search needs
@@ -42,12 +53,10 @@ gather-requires : tie.Need-gather-requires
 gather-requires c κs =
     let s = c .before .before .before .before .before .before .before .before .before .before .before .before .before in
     let f = c .before .before .before .before .forth .ensures in
-    let w = s .pre .1 .1 in
-    let few = w .0 in
+    let few = s .pre .1 .1 .0 in
     let whole = s .pre .0 .0 .whole .blocks in
     let b = ap length (c .before .before .blank .ensures) ∙ length-replicate {A = ℕ} 256 0 in
-    let r = ap length (c .before .before .before .before .before .before .blank-rows .ensures) ∙ length-replicate {A = ℕ} 1004 0 in
-    (
+    let r = ap length (c .before .before .before .before .before .before .blank-rows .ensures) ∙ length-replicate {A = ℕ} 1004 0 in (
       record { laid = s .pre .0 .0; size = s .pre .0 .1; plain = s .pre .1 .0 .0; short = s .pre .1 .0 .1; rows-long = f .1 ∙ r; room = omega arith },
       (f .0, λ j h. blank-row _ 256 j (c .before .before .blank .ensures)),
     )
@@ -57,23 +66,24 @@ has-requires c κs = search needs
 
 returns : tie.Need-returns
 returns c =
-    let s = c .before .before .before .before .before .before .before .before .before .before .before .before .before .before .before .before .before in
-    one-none (none-right (s .pre .0 .0) (s .pre .0 .1) _ refl (c .before .before .before .gather .ensures .0) (c .before .has .ensures .not-so (not-true _ (c .if1 .taken))))
+    let g = c .before .before .before in
+    let l = start g .pre .0 in
+    one-none (none-right (l .0) (l .1) _ refl (g .gather .ensures .0) (c .before .has .ensures .not-so (not-true _ (c .if1 .taken))))
 
 slice-aggregate-freed : tie.Need-slice-aggregate-freed
 slice-aggregate-freed c = search needs
 
 freed-requires : tie.Need-freed-requires
 freed-requires c κs =
-    let s = c .before .before .before .before .before .before .before .before .before .before .before .before .before .before .before .before .before .before in
-    let l = s .pre .0 .0 in
-    let few = s .pre .1 .1 .0 in
+    let g = c .before .before .before .before in
+    let l = start g .pre .0 .0 in
+    let few = start g .pre .1 .1 .0 in
     let z = l .zones-long in
     let e = l .ends-long in
     let w = l .slots-long in
-    let b = ap length (c .before .before .before .before .before .before .before .blank .ensures) ∙ length-replicate {A = ℕ} 256 0 in
-    let g = c .before .before .before .before .gather .ensures .1 in
-    let size = s .pre .0 .1 in
+    let b = ap length (g .before .before .before .blank .ensures) ∙ length-replicate {A = ℕ} 256 0 in
+    let long = g .gather .ensures .1 in
+    let size = start g .pre .0 .1 in
     let short = l .whole .short in
     ((omega arith, omega arith, omega arith, omega arith), (laid-turn l refl, omega arith))
 
@@ -82,29 +92,29 @@ slice-aggregate-narrow-blocks c = search needs
 
 narrow-blocks-requires : tie.Need-narrow-blocks-requires
 narrow-blocks-requires c κs =
-    let s = c .before .before .before .before .before .before .before .before .before .before .before .before .before .before .before .before .before .before .before .before .before .before in
-    let l = s .pre .0 .0 in
-    let few = s .pre .1 .1 .0 in
+    let f = c .before .before .before in
+    let g = f .before .before .before .before .before in
+    let l = start g .pre .0 .0 in
+    let few = start g .pre .1 .1 .0 in
     let whole = l .whole .blocks in
-    let b = ap length (c .before .before .before .before .before .before .before .before .before .before .before .blank .ensures) ∙ length-replicate {A = ℕ} 256 0 in
-    let g = c .before .before .before .before .before .before .before .before .gather .ensures .1 in
-    let f = c .before .before .before .freed .ensures .1 in
-    (
-      l .whole,
-      (
-        (omega arith, s .pre .1 .1 .1),
-        some-length l (s .pre .0 .1) _ refl (c .before .before .before .before .before .before .before .before .gather .ensures .0) (c .before .before .before .before .before .before .has .ensures .so (not-false _ (c .before .before .before .before .before .if1 .left))) (c .before .before .before .freed .ensures .0),
-      ),
-    )
+    let b = ap length (g .before .before .before .blank .ensures) ∙ length-replicate {A = ℕ} 256 0 in
+    let long = g .gather .ensures .1 in
+    let same = f .freed .ensures .1 in
+    let yes = not-false _ (f .before .before .if1 .left) in
+    let lengths = some-length l (start g .pre .0 .1) _ refl (g .gather .ensures .0) (first (f .before .before .before) yes) (f .freed .ensures .0) in
+    (l .whole, ((omega arith, start g .pre .1 .1 .1), lengths))
 
 same-length : tie.Need-same-length
 same-length c = search needs
 
 returns-2 : tie.Need-returns-2
 returns-2 c =
-    let s = c .before .before .before .before .before .before .before .before .before .before .before .before .before .before .before .before .before .before .before .before .before .before .before .before .before in
-    one-some (narrowed-one (s .pre .0 .0) (s .pre .0 .1) _ refl (c .before .before .before .before .before .before .before .before .before .before .before .gather .ensures .0) (c .before .before .before .before .before .before .before .before .before .has .ensures .so (not-false _ (c .before .before .before .before .before .before .before .before .if1 .left))) (c .before .before .before .before .before .before .freed .ensures .0)
-    (small (c .before .before .before .before .before .before .before .before .before .before .before .before .before .before .before .before .before .before .before .before .before .before .before .before)) (s .pre .1 .1 .1) (c .before .before .narrow-blocks .ensures) (λ k. c .slice-known2 .given k .fits))
+    let f = c .before .before .before .before .before .before in
+    let g = f .before .before .before .before .before in
+    let s = start g .pre in
+    let yes = not-false _ (f .before .before .if1 .left) in
+    one-some (narrowed-one (s .0 .0) (s .0 .1) _ refl (g .gather .ensures .0) (first (f .before .before .before) yes) (f .freed .ensures .0)
+    (small (g .before .before .before .before .before .before .before .before .before .before .before .before .before)) (s .1 .1 .1) (c .before .before .narrow-blocks .ensures) (λ k. c .slice-known2 .given k .fits))
 
 pub narrow-laid-spec : {M : Type 1} → statement M
 narrow-laid-spec =

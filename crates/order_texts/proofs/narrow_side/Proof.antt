@@ -3,12 +3,18 @@ use native.Mathlib.Omega.{arith}
 use mathlib.Core.Path.{ap, _∙_}
 use Prim.Native.Nat.{ℕ}
 use lib.ListN.{length, length-replicate}
+use Rattle.shapes.specs.All.{All}
+use Rattle.shapes.specs.Shape.{Small}
+use Rattle.shapes.specs.Lent.{shapeOf}
 use Rattle.shapes.proofs.All.{all-of}
 use Rattle.shapes.proofs.Lent.{small-bases}
 use Rattle.order_texts.proofs.Answers.{one-side}
 use borrow.Author.Needs.{needs}
 use Rattle.order_texts.proofs.narrow_side.Statement.{statement}
 use Rattle.order_texts.proofs.narrow_side.Tie as tie
+
+small : (c : tie.After-shared-slice-known) → All Small (shapeOf (c .before .args .x .now))
+small c = small-bases _ (all-of (c .before .args .x .now) 0 (λ i h. c .shared-slice-known .given i .fits))
 
 blank-requires : tie.Need-blank-requires
 blank-requires c κs = search needs
@@ -42,17 +48,17 @@ slice-aggregate-narrow-laid-3 c = search needs
 
 narrow-laid-requires : tie.Need-narrow-laid-requires
 narrow-laid-requires c κs =
-    let s = c .before .before .before .before .before .before .before .before .before .before .before .before .before .before .before .before .before in
+    let y = c .before .before .before .before .before .before .before in
+    let b = y .before .before .before .before in
+    let s = b .before .before .before .before .before .before in
     let p = s .pre .1 .1 in
     let few = p .1 in
     let whole = s .pre .0 .blocks in
-    let l = c .before .before .before .before .before .before .before .lay .ensures in
-    let k = c .before .before .before .before .before .before .before .lay .kept in
-    let z = k .1 .0 ∙ ap length (c .before .before .before .before .before .before .before .before .before .before .before .before .before .blank .ensures) ∙ length-replicate {A = ℕ} 256 0 in
-    let e = k .1 .1 .0 ∙ ap length (c .before .before .before .before .before .before .before .before .before .before .before .before .blank2 .ensures) ∙ length-replicate {A = ℕ} 256 0 in
-    let w = k .1 .1 .1 .0 ∙ ap length (c .before .before .before .before .before .before .before .before .before .before .before .blank3 .ensures) ∙ length-replicate {A = ℕ} 256 0 in
-    (
-      (record { whole = s .pre .0; lay = l .1; zones-long = omega arith; ends-long = omega arith; slots-long = omega arith }, l .0),
+    let k = y .lay .kept in
+    let z = k .1 .0 ∙ ap length (b .before .before .blank .ensures) ∙ length-replicate {A = ℕ} 256 0 in
+    let e = k .1 .1 .0 ∙ ap length (b .before .blank2 .ensures) ∙ length-replicate {A = ℕ} 256 0 in
+    let w = k .1 .1 .1 .0 ∙ ap length (b .blank3 .ensures) ∙ length-replicate {A = ℕ} 256 0 in (
+      (record { whole = s .pre .0; lay = y .lay .ensures .1; zones-long = omega arith; ends-long = omega arith; slots-long = omega arith }, y .lay .ensures .0),
       ((s .pre .1 .0, p .0), (p .1, p .2)),
     )
 
@@ -60,7 +66,7 @@ same-length : tie.Need-same-length
 same-length c = search needs
 
 returns : tie.Need-returns
-returns c = one-side _ _ _ (small-bases _ (all-of (c .before .before .before .before .before .before .before .before .before .before .before .before .before .before .before .before .before .before .before .before .args .x .now) 0 (λ i h. c .before .before .before .before .before .before .before .before .before .before .before .before .before .before .before .before .before .before .before .shared-slice-known .given i .fits))) (c .before .before .narrow-laid .ensures)
+returns c = one-side _ _ _ (small (c .before .before .before .before .before .before .before .before .before .before .before .before .before .before .before .before .before .before .before)) (c .before .before .narrow-laid .ensures)
 
 pub narrow-side-spec : {M : Type 1} → statement M
 narrow-side-spec =

@@ -1,0 +1,93 @@
+-- The function is exact: its outcome is what narrowing under equality means. Assumes nothing.
+use mathlib.Core.Path.{_≡_, refl, sym, ap, _∙_, subst}
+use mathlib.Core.Bool.{Bool, true, false}
+use mathlib.Core.List.{List, [], _++_}
+use Prim.Native.Nat.{ℕ, suc, _+_, _-_, _≤_, _<_}
+use native.Mathlib.Omega.{arith}
+use borrow.Author.Tests.{eqb-true, eqb-false}
+use lib.Dec.{eqb, ltb}
+use lib.ListN.{length, getD, take}
+use Rattle.bases.specs.Tells.{Tells}
+use Rattle.shapes.specs.All.{All}
+use Rattle.shapes.specs.Shape.{Block, Sound, total, noBlock}
+use Rattle.hulls.specs.Hull.{Pairs, Narrows, to-none, to-shapes}
+use Rattle.rests.specs.Walk.{slotAt, Path, Bounded, Same}
+use Rattle.rests.specs.Collect.{Collected}
+use Rattle.rests.proofs.Walks.{turn-path}
+use Rattle.rests.proofs.Laid.{bounded}
+use Rattle.rests.proofs.Tight.{place, equal-none, equal-hull, some-first}
+use Rattle.equal_reckoning.specs.Equal.{and, at, listed, lastRows, froms, mark, marks, tableOf, cellOf, blocksOf, outcome, fromTable, equalHull}
+use Rattle.equal_reckoning.proofs.Tests.{tells-and, tells-as, tells-so, tells-ltb, listed-at}
+use Rattle.equal_reckoning.proofs.Finish.{RowsFrom, last-rows}
+use Rattle.equal_reckoning.proofs.Reach.{RowsTo, first-rows}
+use Rattle.equal_reckoning.proofs.Gather.{Told, turn-told, block-says, blocks-size, blocks-at}
+
+-- ---- the table
+
+cell-mark : (U W : ℕ) (b f : List (List Bool)) (i j : ℕ) → i ≤ U → j ≤ W → cellOf (marks U W b f) i j ≡ mark (at (getD b i []) j) (at (getD f (U - i) []) (W - j))
+unfolding cellOf marks
+cell-mark U W b f i j h g =
+    ap (λ (l : List ℕ). getD l j 0) (listed-at (λ i. listed (λ j. mark (at (getD b i []) j) (at (getD f (U - i) []) (W - j))) 0 (suc W)) [] 0 (suc U) i (omega arith))
+    ∙ listed-at (λ j. mark (at (getD b (0 + i) []) j) (at (getD f (U - (0 + i)) []) (W - j))) 0 0 (suc W) j (omega arith)
+    ∙ ap (λ (k : ℕ). mark (at (getD b k []) (0 + j)) (at (getD f (U - k) []) (W - (0 + j)))) (let e : 0 + i ≡ i = omega arith in e)
+    ∙ ap (λ (k : ℕ). mark (at (getD b i []) k) (at (getD f (U - i) []) (W - k))) (let e : 0 + j ≡ j = omega arith in e)
+
+-- what a mark tells of the two passes
+mark-live : (b f : Bool) → ltb 0 (mark b f) ≡ b
+unfolding mark
+mark-live true true = refl
+mark-live true false = refl
+mark-live false f = refl
+
+mark-both : (b f : Bool) → eqb (mark b f) 2 ≡ and b f
+unfolding mark and
+mark-both true true = refl
+mark-both true false = refl
+mark-both false f = refl
+
+module _ {X Y : ℕ → Block} {U W : ℕ} {b f : List (List Bool)} (rb : RowsFrom X Y U W 0 b) (rf : RowsTo X Y W (suc U) f) where
+  finishing : (i j : ℕ) → i ≤ U → j ≤ W → Tells (at (getD b i []) j) (Path X Y U W i j)
+  finishing i j h g = subst (λ (z : ℕ). Tells (at (getD b i []) j) (Path X Y U W z j)) (let e : 0 + i ≡ i = omega arith in e) (rb .says i j (omega arith) g)
+
+  reaching : (i j : ℕ) → i ≤ U → j ≤ W → Tells (at (getD f (U - i) []) (W - j)) (Path X Y i j 0 0)
+  reaching i j h g = subst (λ (z : ℕ). Tells (at (getD f z []) (W - j)) (Path X Y i j 0 0)) (let e : suc U - 1 - i ≡ U - i = omega arith in e) (rf .says i j (omega arith) g)
+
+  told-marks : Told X Y U W (cellOf (marks U W b f))
+  told-marks = record {
+    live = λ i j h g. tells-as (ap (λ (v : ℕ). ltb 0 v) (cell-mark U W b f i j h g) ∙ mark-live _ _) (finishing i j h g);
+    marked = λ i j h g. tells-as (ap (λ (v : ℕ). eqb v 2) (cell-mark U W b f i j h g) ∙ mark-both _ _) (tells-and _ (finishing i j h g) (λ z. reaching i j h g));
+  }
+
+pub told-table : {X Y : ℕ → Block} {U W : ℕ} → Bounded X U → Bounded Y W → Told X Y U W (cellOf (tableOf X Y U W))
+unfolding tableOf
+told-table {X} {Y} {U} {W} x y = told-marks
+    (subst (λ (z : ℕ). RowsFrom X Y U W z (lastRows X Y U W (suc U))) (let e : U + 1 - suc U ≡ 0 = omega arith in e) (last-rows x y (suc U) (omega arith)))
+    (first-rows x y (listed (λ j. froms Y j j) 0 (suc W))
+    (λ j h. listed-at (λ j. froms Y j j) [] 0 (suc W) j (omega arith) ∙ ap (λ (k : ℕ). froms Y k k) (let e : 0 + j ≡ j = omega arith in e)) (suc U))
+
+-- ---- the outcome
+
+module _ (X Y : List Block) (gx : All Sound X) (gy : All Sound Y) {T : ℕ → ℕ → ℕ} (t : Told (slotAt X) (slotAt Y) (total X) (total Y) T) where
+  side : (p : Path (slotAt X) (slotAt Y) (total X) (total Y) 0 0) (i : ℕ) → i < length X
+      → Collected (slotAt X) (slotAt Y) (total X) (total Y) (total (take i X)) (getD X i noBlock) (getD (blocksOf T (slotAt Y) (total Y) 0 X) i noBlock)
+  side p i h = subst (Collected (slotAt X) (slotAt Y) (total X) (total Y) (total (take i X)) (getD X i noBlock)) (sym (blocks-at T (slotAt Y) (total Y) 0 (total (take i X)) X i h (omega arith)))
+      (block-says (place X Y gx i h) t (some-first X Y gx gy p i h .1))
+
+module _ (X Y : List Block) (gx : All Sound X) (gy : All Sound Y) where
+  exact-table : (t : List (List ℕ)) → Told (slotAt X) (slotAt Y) (total X) (total Y) (cellOf t) → Narrows (Pairs Same (length X)) (X ++ Y) (fromTable X Y t)
+  unfolding fromTable outcome
+  exact-table t k = go (eqb (cellOf t 0 0) 0) refl
+    where
+      go : (v : Bool) → eqb (cellOf t 0 0) 0 ≡ v
+          → Narrows (Pairs Same (length X)) (X ++ Y) (outcome v (blocksOf (cellOf t) (slotAt Y) (total Y) 0 X ++ blocksOf (λ i j. cellOf t j i) (slotAt X) (total X) 0 Y))
+      go true e = to-none (equal-none X Y gx gy (λ p. let z = eqb-true (cellOf t 0 0) 0 e in let l = tells-ltb 0 (cellOf t 0 0) .so (tells-so (k .live 0 0 (omega arith) (omega arith)) p) in omega arith))
+      go false e =
+          let z = eqb-false (cellOf t 0 0) 0 e in
+          let p = k .live 0 0 (omega arith) (omega arith) .so (tells-so (tells-ltb 0 (cellOf t 0 0)) (omega arith)) in
+          to-shapes (equal-hull X Y gx gy (blocksOf (cellOf t) (slotAt Y) (total Y) 0 X) (blocksOf (λ i j. cellOf t j i) (slotAt X) (total X) 0 Y) p (blocks-size (cellOf t) (slotAt Y) (total Y) 0 X) (blocks-size (λ i j. cellOf t j i) (slotAt X) (total X) 0 Y)
+          (side X Y gx gy k p) (side Y X gy gx (turn-told k) (turn-path p)))
+
+  -- the function is exact
+  pub equal-exact : Narrows (Pairs Same (length X)) (X ++ Y) (equalHull X Y)
+  unfolding equalHull
+  equal-exact = exact-table (tableOf (slotAt X) (slotAt Y) (total X) (total Y)) (told-table (bounded X) (bounded Y))

@@ -1,0 +1,130 @@
+// The report of a book: STABLE with the final shapes, NONE, or REFUSED.
+use answers::Refusal;
+use shapes::Block;
+ghost use mathlib.Core.List.{[], _∷_, map};
+ghost use Prim.Native.Nat.{_+_, _*_, _/_, _≤_};
+ghost use lib.ListN.{length};
+ghost use Rattle.answers.specs.Told.{told};
+ghost use Rattle.shapes.specs.All.{All};
+ghost use Rattle.shapes.specs.Lent.{shapeOf, meant};
+ghost use Rattle.file_numerals.specs.Digits.{decimal};
+ghost use Rattle.file_lines.specs.Book.{RightBlock, headLine, blockLine, joined};
+ghost use Rattle.shapes.specs.Shape.{blockCount};
+ghost use Rattle.file_reports.specs.Report.{Reported};
+ghost use Rattle.file_reports.specs.Report.Verdict.{stable, none, refused};
+ghost use Rattle.file_reports.specs.Put.{Wrote, spaced, pairEnd};
+
+// A line of a word and a number.
+fn put_head(word: &[u8], n: u64, out: &mut [u8], at: usize) -> usize
+    requires { ⌜ at + length (now word) + 21 ≤ length (now out) ⌝ }
+    ensures { λ r. ⌜ Wrote (now (out .entry)) at (joined (headLine (now (word .entry)) n ∷ [])) (now (out .exit)) r ⌝ }
+    ensures { λ r. ⌜ r ≤ at + length (now (word .entry)) + 21 ⌝ }
+{
+    let a = file_numerals::put_bytes(word, out, at);
+    let b = file_numerals::put_decimal(n, out, a);
+    file_numerals::put_bytes(b"\n", out, b)
+}
+
+// A line of a number.
+fn put_count(n: u64, out: &mut [u8], at: usize) -> usize
+    requires { ⌜ at + 21 ≤ length (now out) ⌝ }
+    ensures { λ r. ⌜ Wrote (now (out .entry)) at (joined (decimal n ∷ [])) (now (out .exit)) r ⌝ }
+    ensures { λ r. ⌜ r ≤ at + 21 ⌝ }
+{
+    let a = file_numerals::put_decimal(n, out, at);
+    file_numerals::put_bytes(b"\n", out, a)
+}
+
+fn put_spaced(n: u64, out: &mut [u8], at: usize) -> usize
+    requires { ⌜ at + length (spaced n) ≤ length (now out) ⌝ }
+    ensures { λ r. ⌜ Wrote (now (out .entry)) at (spaced n) (now (out .exit)) r ⌝ }
+{
+    let a = file_numerals::put_bytes(b" ", out, at);
+    file_numerals::put_decimal(n, out, a)
+}
+
+fn put_pair(a: u64, b: u64, out: &mut [u8], at: usize) -> usize
+    requires { ⌜ at + length (pairEnd a b) ≤ length (now out) ⌝ }
+    ensures { λ r. ⌜ Wrote (now (out .entry)) at (pairEnd a b) (now (out .exit)) r ⌝ }
+{
+    let first = put_spaced(a, out, at);
+    let second = put_spaced(b, out, first);
+    file_numerals::put_bytes(b"\n", out, second)
+}
+
+// A block's line.
+fn put_block(b: Block, out: &mut [u8], at: usize) -> usize
+    requires { ⌜ at + 45 ≤ length (now out) ⌝ }
+    requires { ⌜ RightBlock (meant b) ⌝ }
+    ensures { λ r. ⌜ Wrote (now (out .entry)) at (joined (blockLine (meant b) ∷ [])) (now (out .exit)) r ⌝ }
+    ensures { λ r. ⌜ r ≤ at + 45 ⌝ }
+{
+    file_numerals::put_digits(b.base.b, 16, 16, out, at);
+    file_numerals::put_digits(b.base.a, 16, 16, out, at + 16);
+    put_pair(b.lower, b.upper, out, at + 32)
+}
+
+fn put_counts(counts: &[u64], out: &mut [u8], at: usize) -> usize
+    requires { ⌜ at + length (now counts) * 21 ≤ length (now out) ⌝ }
+    ensures { λ r. ⌜ Wrote (now (out .entry)) at (joined (map decimal (now (counts .entry)))) (now (out .exit)) r ⌝ }
+    ensures { λ r. ⌜ r ≤ at + length (now (counts .entry)) * 21 ⌝ }
+{
+    let n = counts.len();
+    let mut end = at;
+    let mut i = 0;
+    while i < n {
+        end = put_count(counts[i], out, end);
+        i += 1;
+    }
+    end
+}
+
+fn put_blocks(blocks: &[u64], out: &mut [u8], at: usize) -> usize
+    requires { ⌜ at + blockCount (now blocks) * 45 ≤ length (now out) ⌝ }
+    requires { ⌜ All RightBlock (shapeOf (now blocks)) ⌝ }
+    ensures { λ r. ⌜ Wrote (now (out .entry)) at (joined (map blockLine (shapeOf (now (blocks .entry))))) (now (out .exit)) r ⌝ }
+    ensures { λ r. ⌜ r ≤ at + blockCount (now (blocks .entry)) * 45 ⌝ }
+{
+    let n = blocks.len() / shapes::SIZE;
+    let mut end = at;
+    let mut i = 0;
+    while i < n {
+        let b = shapes::block_at(blocks, i);
+        end = put_block(b, out, end);
+        i += 1;
+    }
+    end
+}
+
+// STABLE, the applications made, and the texts and blocks as a book has them.
+pub fn write_stable(counts: &[u64], blocks: &[u64], count: u64, out: &mut [u8]) -> usize
+    requires { ⌜ 16384 ≤ length (now out) ⌝ }
+    requires { ⌜ length (now counts) ≤ 8 ⌝ }
+    requires { ⌜ blockCount (now blocks) ≤ 256 ⌝ }
+    requires { ⌜ All RightBlock (shapeOf (now blocks)) ⌝ }
+    ensures { λ r. ⌜ Reported (stable (now (counts .entry)) (shapeOf (now (blocks .entry))) count) (now (out .entry)) (now (out .exit)) r ⌝ }
+{
+    let a = put_head(b"STABLE ", count, out, 0);
+    let b = put_head(b"TEXTS ", counts.len() as u64, out, a);
+    let c = put_counts(counts, out, b);
+    let d = put_head(b"BLOCKS ", (blocks.len() / shapes::SIZE) as u64, out, c);
+    put_blocks(blocks, out, d)
+}
+
+// NONE and the applications made.
+pub fn write_none(count: u64, out: &mut [u8]) -> usize
+    requires { ⌜ 16384 ≤ length (now out) ⌝ }
+    ensures { λ r. ⌜ Reported (none count) (now (out .entry)) (now (out .exit)) r ⌝ }
+{
+    put_head(b"NONE ", count, out, 0)
+}
+
+// REFUSED with number, text and place.
+pub fn write_refused(refusal: Refusal, out: &mut [u8]) -> usize
+    requires { ⌜ 16384 ≤ length (now out) ⌝ }
+    ensures { λ r. ⌜ Reported (refused (told refusal)) (now (out .entry)) (now (out .exit)) r ⌝ }
+{
+    let a = file_numerals::put_bytes(b"REFUSED ", out, 0);
+    let b = file_numerals::put_decimal(answers::number(refusal), out, a);
+    put_pair(answers::text(refusal), answers::place(refusal), out, b)
+}

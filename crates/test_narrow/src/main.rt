@@ -1,0 +1,104 @@
+// Runs the cases of the standard input through exact narrowing, one to a line, and writes a line for each. The second
+// program makes the input and, by other methods, the output that is wanted.
+//
+//     N kind k rx ry n w .. m w ..    narrow outputs work z e | none outputs work z e
+//                                     | refused number text place outputs work z e
+//
+// X of n numbers and Y of m numbers under the relation of a rule of that kind, with a work buffer of k bytes and outputs of
+// rx and ry numbers. The numbers of a line are hex, and so are those of the outputs, all of which are shown as they are after
+// the call, the second behind a slash; z and e count the bytes 0 that the work buffer begins with and the untouched ones at
+// its end.
+use answers::Narrowed;
+use test_lines::fields::find;
+use test_lines::fields::first_list;
+use test_lines::fields::later_lists;
+use test_lines::fields::read_words;
+use test_lines::fields::within;
+use test_lines::fields::within_numbers;
+use test_lines::show;
+
+fn main() {
+    let mut input = [0u8; 400000];
+    let n = io::read_full(0, &mut input);
+    run(&input[..n]);
+}
+
+// Runs each line of the input.
+fn run(input: &[u8]) {
+    let mut at = 0;
+    while at < input.len() {
+        let end = find(input, at, b'\n');
+        case(&input[at..end]);
+        at = end + 1;
+    }
+}
+
+fn case(line: &[u8]) {
+    if line.len() == 0 {
+        return;
+    }
+    let mut row = [0u64; 420];
+    let n = read_words(&line[1..], &mut row);
+    match line[0] {
+        b'N' => narrow_case(&row[..n]),
+        _ => show::line(b"no such case"),
+    }
+}
+
+// The first numbers are the kind and the lengths of work buffer and outputs.
+fn narrow_case(numbers: &[u64]) {
+    if numbers.len() < 4 {
+        return;
+    }
+    let mut work = [0x5au8; 70000];
+    let k = within(numbers[1], &work);
+    let mut out_x = [0xa5a5u64; 200];
+    let rx = within_numbers(numbers[2], &out_x);
+    let mut out_y = [0xa5a5u64; 200];
+    let ry = within_numbers(numbers[3], &out_y);
+    narrow_line(
+        numbers[0],
+        &numbers[4..],
+        &mut work[..k],
+        &mut out_x[..rx],
+        &mut out_y[..ry],
+    );
+}
+
+fn narrow_line(kind: u64, lists: &[u64], work: &mut [u8], out_x: &mut [u64], out_y: &mut [u64]) {
+    let x = first_list(lists);
+    let y = first_list(later_lists(lists));
+    narrowed(narrow(kind, x, y, work, out_x, out_y));
+    show::numbers(out_x);
+    io::write_all(1, b" /");
+    show::numbers(out_y);
+    show::work(work, 0x5a);
+    show::line(b"");
+}
+
+fn narrow(
+    kind: u64,
+    x: &[u64],
+    y: &[u64],
+    work: &mut [u8],
+    out_x: &mut [u64],
+    out_y: &mut [u64],
+) -> Narrowed {
+    match kind {
+        0 => dashed::narrow_equal(x, y, work, out_x, out_y),
+        1 => dashed::narrow_at_most(x, y, work, out_x, out_y),
+        _ => dashed::narrow_before(x, y, work, out_x, out_y),
+    }
+}
+
+fn narrowed(answer: Narrowed) {
+    match answer {
+        Narrowed::Narrow => {
+            io::write_all(1, b"narrow");
+        }
+        Narrowed::None => {
+            io::write_all(1, b"none");
+        }
+        Narrowed::Refused(r) => show::refused(r),
+    }
+}
