@@ -3,7 +3,7 @@ use mathlib.Core.Path.{_≡_, refl, sym, ap, _∙_, subst}
 use mathlib.Core.List.{List, _∷_}
 use mathlib.Core.Logic.{_⊎_, inl, inr, ⊎-elim}
 use Prim.Native.Nat.{ℕ, zero, suc, _+_, _-_, _*_, _/_, _%_, _^_, _≤_, _<_}
-use native.Mathlib.Nat.{mod-lt, div-one, pow-succ'}
+use native.Mathlib.Nat.{mod-lt, div-one}
 use native.Mathlib.Omega.{arith}
 use lib.Dec.{lit<}
 use lib.ListN.{length}
@@ -11,7 +11,7 @@ use lib.Pow.{shr-lt}
 use native.Mathlib.Numerals.{add-one}
 use Rattle.bases.specs.Base.{Holds, Empty}
 use Rattle.bases.proofs.Plain.{lt-or-le, eq-or-ne}
-use Rattle.bases.proofs.Laws.{halved, empty-zero, none-in-zero}
+use Rattle.bases.proofs.Laws.{empty-zero, none-in-zero}
 use Rattle.shapes.specs.All.{All, more}
 use Rattle.shapes.specs.Shape.{Block, Sound, Small}
 use Rattle.hulls.specs.Hull.{Hull}

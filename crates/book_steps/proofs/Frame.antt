@@ -8,7 +8,7 @@ use lib.ListN.{length, take, drop, length-append, length-drop}
 use lib.Seq.{length-take-le, sets, sets-eq, length-sets}
 use Rattle.bases.proofs.Plain.{lt-or-le}
 use Rattle.shapes.specs.All.{All}
-use Rattle.shapes.specs.Shape.{Block, Sound, Filling, textOf, noBlock}
+use Rattle.shapes.specs.Shape.{Block, Sound, Filling, noBlock}
 use Rattle.shapes.proofs.All.{all-append}
 use Rattle.hulls.specs.Hull.{None, Hull, Pairs}
 use Rattle.hulls.specs.Book.{part}

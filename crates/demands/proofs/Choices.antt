@@ -1,10 +1,10 @@
 -- A choice of texts is a choice of runs, and back: so no choice of texts that satisfies the whole book is lost. Assumes nothing.
-use mathlib.Core.Path.{_≡_, refl, sym, ap, ap₂, _∙_, subst, subst₂}
+use mathlib.Core.Path.{_≡_, refl, sym, ap, _∙_, subst, subst₂}
 use mathlib.Core.List.{List, [], _∷_, _++_}
 use Prim.Native.Nat.{ℕ, zero, suc, _+_, _-_, _≤_, _<_}
 use native.Mathlib.Omega.{arith}
 use lib.ListN.{length, getD, take, drop, length-drop, take-append-drop}
-use lib.Seq.{take-at, drop-at, drop-drop, drop-append-add, length-take-le}
+use lib.Seq.{take-at, drop-drop, drop-append-add, length-take-le}
 use Rattle.shapes.specs.All.{All}
 use Rattle.shapes.specs.Shape.{Block, Filling, done, textOf, Fits}
 use Rattle.shapes.specs.Lent.{Numbers, shapeOf}
@@ -12,7 +12,7 @@ use Rattle.hulls.specs.Hull.{none as in-none, shapes}
 use Rattle.hulls.proofs.Fill.{filling-size, join, split-first, split-second}
 use Rattle.hulls.proofs.Runs.{none-lost}
 use Rattle.texts.specs.Kind.{relationOf}
-use Rattle.books.specs.Counts.{sumOf, RightCount, countOf, firstOf, shapeIn}
+use Rattle.books.specs.Counts.{sumOf, RightCount, countOf, firstOf}
 use Rattle.rules.specs.Rule.{ruleAt, ruleCount}
 use Rattle.books.specs.Rules.{Names, ruleOf}
 use Rattle.books.specs.Refused.{RightRules}

@@ -1,22 +1,19 @@
 -- The user's three demands hold: each field by citation. Assumes nothing.
 use mathlib.Core.Path.{_≡_, refl, sym, ap, _∙_, subst, subst₂}
-use mathlib.Core.List.{List, _++_}
+use mathlib.Core.List.{List}
 use Prim.Native.Nat.{ℕ}
 use lib.ListN.{length, take, drop, length-append}
 use lib.Seq.{take-at}
 use native.Mathlib.Omega.{arith}
-use Rattle.answers.specs.declared.Narrowed.{Narrowed}
 use Rattle.answers.specs.declared.Written.{Written}
 use Rattle.extremes.specs.declared.Direction.{Direction}
 use Rattle.extremes.specs.declared.Direction.the-variants.{Least, Greatest}
 use Rattle.extremes.specs.Extreme.{ExtremePromise, NoFurther, Extreme}
 use Rattle.extremes.specs.Steps.{extreme}
-use Rattle.shapes.specs.Shape.{Block, Fits}
 use Rattle.shapes.specs.Lent.{shapeOf}
 use Rattle.texts.specs.Order.{AtMost, Before}
 use Rattle.pairs.specs.Narrow.{NarrowPromise}
 use Rattle.sweep_calls.proofs.Sweeping.{sweep-determined}
-use Rattle.books.specs.Refused.{BookAccepted}
 use Rattle.book_runs.proofs.Determined.{run-determined}
 use Rattle.book_steps.proofs.Standing.{standing-first}
 use Rattle.file_runs.proofs.Determined.{run-file-determined}

@@ -1,15 +1,15 @@
 -- The hull of two shapes laid end to end, as exactly what some pair of fillings gives each block; and none, as no two texts. Assumes nothing.
 use mathlib.Core.Path.{_≡_, sym, ap, _∙_, subst, subst₂}
 use mathlib.Core.List.{List, [], _++_}
-use Prim.Native.Nat.{ℕ, _+_, _*_, _/_, _<_}
+use Prim.Native.Nat.{ℕ, _+_, _<_}
 use native.Mathlib.Omega.{arith}
 use lib.ListN.{length, getD, take, drop, length-append, List·getD-append}
 use lib.Seq.{take-at, getD-append-add, getD-take, getD-drop}
-use Rattle.shapes.specs.Shape.{Block, Filling, textOf, Fits, noBlock}
+use Rattle.shapes.specs.Shape.{Block, textOf, Fits, noBlock}
 use Rattle.shapes.specs.Lent.{shapeOf, wordsOf, Accepted}
 use Rattle.shapes.proofs.Lent.{shape-length}
 use Rattle.shapes.proofs.Numbers.{shape-words, words-length}
-use Rattle.hulls.specs.Hull.{Pairs, Satisfies, None, Taken, Tight, Hull}
+use Rattle.hulls.specs.Hull.{Pairs, Satisfies, None, Tight, Hull}
 use Rattle.hulls.proofs.Fill.{filling-size, split-first, split-second, pair-satisfies}
 use Rattle.hulls.proofs.Tight.{tight-same}
 use Rattle.demands.specs.Demands.{Pair, KeepsExactly}

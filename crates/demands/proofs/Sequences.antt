@@ -3,7 +3,7 @@
 use mathlib.Core.Path.{_≡_, refl, sym, ap, _∙_, subst}
 use mathlib.Core.Bool.{Bool, true≢false}
 use mathlib.Core.List.{List, [], _∷_}
-use Prim.Native.Nat.{ℕ, zero, suc, _%_, _≤_}
+use Prim.Native.Nat.{ℕ, suc, _%_, _≤_}
 use native.Mathlib.Omega.{arith}
 use lib.ListN.{length, replicate, length-replicate}
 use Rattle.shapes.specs.All.{All}
@@ -24,7 +24,7 @@ use Rattle.book_steps.specs.Step.{Standing}
 use Rattle.book_runs.proofs.Walk.{Kept, one-kept, among}
 use Rattle.book_laying.proofs.Shapes.{same-numbers}
 use Rattle.book_steps.proofs.Standing.{standing-first}
-use Rattle.demands.specs.Calls.{Call, after, LeftAlone, Ending, none, numbers, Calls, says-none, rests, goes-on, InOrder, ends, next, round, WidestLeft}
+use Rattle.demands.specs.Calls.{after, LeftAlone, Ending, none, numbers, Calls, says-none, rests, goes-on, InOrder, ends, next, round, WidestLeft}
 use Rattle.demands.proofs.Calls.{call-hull, call-stands, call-words, call-none, leaves-hull, none-call, hull-call, hull-after, hull-leaves}
 
 -- some work buffer

@@ -6,14 +6,14 @@ use Prim.Native.Nat.{ℕ, zero, suc, _+_, _-_, _*_, _/_, _≤_, _<_}
 use native.Mathlib.Omega.{arith}
 use lib.Bits.{bitOr}
 use lib.ListN.{length, getD, take, replicate}
-use Rattle.bases.specs.Base.{Holds, Meets, baseOf}
+use Rattle.bases.specs.Base.{Meets, baseOf}
 use Rattle.bases.proofs.Plain.{lt-or-le}
 use Rattle.sets.specs.Set.{setOf, Exactly}
 use Rattle.sets.proofs.Exact.{exactly-at}
 use Rattle.shapes.specs.Shape.{Block, noBlock, total}
 use Rattle.shapes.specs.Lent.{shapeOf, blockAt}
 use Rattle.shapes.proofs.Lent.{shape-length, shape-at}
-use Rattle.rests.specs.Walk.{Path, slotAt}
+use Rattle.rests.specs.Walk.{slotAt}
 use Rattle.rests.proofs.Laid.{bounded}
 use Rattle.rows.specs.Row.{rowIn, PutRow}
 use Rattle.rows.specs.Steps.{Matched, Given}
@@ -22,7 +22,7 @@ use Rattle.row_lay.proofs.Laid.{total-all, total-more, total-zero, upper-within
 use Rattle.row_paths.specs.Rows.{BlockIn, Takes, From, Gives}
 use Rattle.row_paths.proofs.Back.{used-none}
 use Rattle.row_paths.proofs.Forth as forth
-use Rattle.row_paths.proofs.Chars.{SlotRows, joined-gives, given-more, given-none, moved-more, moved-none, seen-from}
+use Rattle.row_paths.proofs.Chars.{joined-gives, given-more, given-none, moved-more, moved-none, seen-from}
 use Rattle.row_paths.proofs.Shapes.{free-within, held-within}
 use Rattle.equal_forth.specs.Forth.{Pass}
 use Rattle.equal_forth.proofs.Pass.{block-at, slot-rows-at, zones-at}

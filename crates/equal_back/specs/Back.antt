@@ -1,8 +1,7 @@
 -- Equality's second pass: rows from the ends, one after the other, and what the two shapes' blocks are given on the way.
 use mathlib.Core.Path.{_≡_}
-use mathlib.Core.Bool.{Bool, true, false}
 use mathlib.Core.List.{List}
-use Prim.Native.Nat.{ℕ, _+_, _/_, _≤_, _<_}
+use Prim.Native.Nat.{ℕ, _+_, _≤_, _<_}
 use lib.ListN.{length, getD, take}
 use Rattle.bases.specs.Base.{Holds, Meets}
 use Rattle.sets.specs.Set.{setOf, Exactly}
@@ -13,7 +12,6 @@ use Rattle.rows.specs.Row.{rowIn, tableSize}
 use Rattle.row_paths.specs.Rows as rows
 use Rattle.row_paths.specs.Rows.{Zones, BlockIn, Quits, Takes, From, Seen, Gives}
 use Rattle.equal_back.specs.declared.Gathered.{Gathered}
-use Rattle.equal_back.specs.declared.Told.{Told}
 
 -- What is gathered at position i, where the block at hand ends at e.
 abbrev pub GatheredAt : (ℕ → Block) → (ℕ → Block) → ℕ → ℕ → ℕ → ℕ → Gathered → Type 0

@@ -9,7 +9,6 @@ ghost use lib.ListN.{length, replicate};
 ghost use Rattle.bases.specs.Base.{Holds, Meets};
 ghost use Rattle.bases.specs.Tells.{Tells};
 ghost use Rattle.sets.specs.Set.{setOf, Exactly};
-ghost use Rattle.shapes.specs.Shape.{total};
 ghost use Rattle.shapes.specs.Lent.{Whole, meant, shapeOf};
 ghost use Rattle.rows.specs.Row.{rowIn, rowCount, tableSize};
 ghost use Rattle.rows.specs.Steps.{InTurn};

@@ -1,26 +1,25 @@
 -- The rows of a block, one more position at a time, and of a shape, one more block at a time. Assumes nothing.
-use mathlib.Core.Path.{_≡_, refl, sym, ap, _∙_, subst}
-use mathlib.Core.Bool.{Bool, true, false}
+use mathlib.Core.Path.{_≡_, refl, sym, _∙_, subst}
+use mathlib.Core.Bool.{true, false}
 use mathlib.Core.List.{List}
 use mathlib.Core.Logic.{⊎-elim}
-use Prim.Native.Nat.{ℕ, _+_, _-_, _*_, _/_, _%_, _^_, _≤_, _<_}
+use Prim.Native.Nat.{ℕ, _+_, _-_, _*_, _%_, _^_, _≤_, _<_}
 use native.Mathlib.Omega.{arith}
 use borrow.Author.Tests.{lt-leb, le-leb}
 use lib.Bits.{bitAnd, bitOr}
 use lib.Dec.{leb}
-use lib.ListN.{length, getD, take}
-use Rattle.bases.specs.Base.{Holds, Meets}
+use Rattle.bases.specs.Base.{Meets}
 use Rattle.bases.proofs.Plain.{lt-or-le}
 use Rattle.sets.specs.Set.{Exactly}
-use Rattle.sets.proofs.Exact.{exactly-as, exactly-at}
-use Rattle.shapes.specs.Shape.{Block, noBlock, total}
-use Rattle.rests.specs.Walk.{Path, slotAt}
+use Rattle.sets.proofs.Exact.{exactly-at}
+use Rattle.shapes.specs.Shape.{Block}
+use Rattle.rests.specs.Walk.{Path}
 use Rattle.rows.specs.Row.{rowIn, PutRow}
 use Rattle.rows.specs.Steps.{Leads}
-use Rattle.row_paths.specs.Rows.{Zones, BlockIn, Entered, start, ended, taken, Comes, Stops}
+use Rattle.row_paths.specs.Rows.{Zones, BlockIn, Entered}
 use Rattle.row_paths.proofs.Reached.{reached-row}
 use Rattle.row_paths.proofs.Forth.{enter-within, enter-next, comes-none, between-none, comes-more, between-more, between-same}
-use Rattle.equal_forth.specs.Forth.{RowsTo, BlockRows, Follows, RowsKept, PassTo}
+use Rattle.equal_forth.specs.Forth.{RowsTo, BlockRows, RowsKept}
 
 -- ---- one block
 

@@ -1,7 +1,7 @@
 -- Equality's first pass: row i has the positions of Y to which one text leads from the starts, beside position i of X.
 use mathlib.Core.Path.{_≡_}
 use mathlib.Core.List.{List}
-use Prim.Native.Nat.{ℕ, _+_, _/_, _≤_, _<_}
+use Prim.Native.Nat.{ℕ, _+_, _≤_, _<_}
 use lib.ListN.{length, take}
 use Rattle.bases.specs.Base.{Meets}
 use Rattle.sets.specs.Set.{Exactly}

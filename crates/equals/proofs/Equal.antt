@@ -1,12 +1,11 @@
 -- Narrowing two lent shapes under equality, from what the two passes tell. Assumes nothing.
 use mathlib.Core.Path.{_≡_, refl, sym, ap, _∙_, subst}
-use mathlib.Core.Bool.{Bool, true, false, true≢false, false≢true}
+use mathlib.Core.Bool.{true, false, true≢false, false≢true}
 use mathlib.Core.List.{List}
-use Prim.Native.Nat.{ℕ, _+_, _/_, _^_, _≤_, _<_}
+use Prim.Native.Nat.{ℕ, _/_, _^_, _≤_, _<_}
 use native.Mathlib.Omega.{arith}
 use lib.ListN.{length, getD, take, replicate, length-replicate}
 use Rattle.bases.specs.Base.{Holds}
-use Rattle.sets.specs.Set.{Exactly}
 use Rattle.shapes.specs.Shape.{Block, total, noBlock}
 use Rattle.shapes.specs.Lent.{Whole, blockAt, shapeOf}
 use Rattle.shapes.proofs.All.{all-at}
@@ -23,7 +22,7 @@ use Rattle.row_paths.proofs.Told.{told-collected, some-length}
 use Rattle.row_paths.proofs.Shapes.{block-in}
 use Rattle.equal_forth.specs.Forth.{Pass}
 use Rattle.equal_back.specs.Back.{SideTold}
-use Rattle.pairs.specs.Narrow.{Narrows, NoPair, NarrowAnswer}
+use Rattle.pairs.specs.Narrow.{Narrows, NarrowAnswer}
 
 -- there is a pair of fillings with one text
 abbrev pub Joined : List ℕ → List ℕ → Type 0

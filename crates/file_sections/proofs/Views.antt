@@ -1,9 +1,9 @@
 -- An item's numbers, seen as what they mean: a count, a block, a rule. So what is said of all items is said of each kind. Assumes nothing.
-use mathlib.Core.Path.{_≡_, refl, sym, ap, ap₂, _∙_, subst}
+use mathlib.Core.Path.{_≡_, refl, sym, ap, _∙_, subst}
 use mathlib.Core.List.{List, [], _∷_, _++_, map}
 use Prim.Native.Nat.{ℕ, zero, suc, _+_, _*_, _≤_}
 use native.Mathlib.Omega.{arith}
-use lib.ListN.{length, getD, take, drop, length-drop}
+use lib.ListN.{length, getD, take, drop}
 use Rattle.rules.specs.declared.Rule.{Rule}
 use Rattle.rules.specs.Rule.{numbersOf, ruleAt, rulesOf}
 use Rattle.shapes.specs.All.{All}
@@ -19,7 +19,7 @@ use Rattle.file_sections.specs.declared.Item.{Item}
 use Rattle.file_sections.specs.declared.Item.the-variants.{Count, Block as BlockItem, Rule as RuleItem}
 use Rattle.file_sections.specs.Steps.{State}
 use Rattle.file_sections.specs.Items.{sizeOf, RightItem, lineOf, wordOf, mostOf, before, toCome, itemsOf}
-use Rattle.file_sections.specs.Parts.{Items, SectionIs}
+use Rattle.file_sections.specs.Parts.{SectionIs}
 use Rattle.file_sections.proofs.Steps.{Kind, counts-kind, blocks-kind, rules-kind}
 use Rattle.file_sections.proofs.Sections.{Head, texts-head, blocks-head, rules-head}
 use Rattle.file_sections.proofs.Newline.{without-block, without-rule, texts-without, blocks-without, rules-without}

@@ -1,10 +1,10 @@
 -- The sections as they are read, seen as block counts, blocks and rules. Assumes nothing.
-use mathlib.Core.Path.{_≡_, sym, ap, _∙_, subst}
+use mathlib.Core.Path.{_≡_, subst}
 use mathlib.Core.List.{List}
-use Prim.Native.Nat.{ℕ, _*_, _≤_}
-use native.Mathlib.Nat.{mul-one, mul-le-mul-right}
+use Prim.Native.Nat.{ℕ, _≤_}
+use native.Mathlib.Nat.{mul-one}
 use native.Mathlib.Omega.{arith}
-use lib.ListN.{length, take, drop}
+use lib.ListN.{length, drop}
 use Rattle.rules.specs.declared.Rule.{Rule}
 use Rattle.shapes.specs.Shape.{Block}
 use Rattle.file_numerals.specs.Digits.{decimal}

@@ -17,7 +17,7 @@ pub whole : {xs : List ℕ} → Accepted xs → Whole xs
 whole a = record { blocks = a .right .whole; sound = a .sound; short = a .short }
 
 -- and has few numbers
-pub few : {xs : List ℕ} → Accepted xs → length xs ≤ 256
+pub few : {xs : List ℕ} → Accepted xs → length xs ≤ 128
 few a = let n = a .right .few in let w = a .right .whole in omega arith
 
 module _ {xs ys ox oy ox′ oy′ : List ℕ} {r : Bool} where

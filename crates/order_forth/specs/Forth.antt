@@ -1,7 +1,7 @@
 -- An order's first pass: row q has the positions to which some text of the shape leads that matches q characters of the first m bytes of a text.
 use mathlib.Core.Path.{_≡_}
 use mathlib.Core.List.{List}
-use Prim.Native.Nat.{ℕ, _-_, _/_, _≤_, _<_}
+use Prim.Native.Nat.{ℕ, _-_, _≤_, _<_}
 use lib.ListN.{length, take}
 use Rattle.sets.specs.Set.{Exactly}
 use Rattle.shapes.specs.Lent.{shapeOf, blockAt}

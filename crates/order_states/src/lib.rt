@@ -1,8 +1,7 @@
 // The states of an order's second pass, from the last to the first: where texts on the right side end a run early, take a character, or part from the fixed text.
 use sets::Set;
 ghost use mathlib.Core.Path.{_≡_};
-ghost use Prim.Native.Nat.{_/_, _≤_};
-ghost use lib.ListN.{length};
+ghost use Prim.Native.Nat.{_≤_};
 ghost use Rattle.sets.specs.Set.{setOf};
 ghost use Rattle.rows.specs.Row.{rowIn, rowCount};
 ghost use Rattle.rows.specs.Steps.{InTurn};

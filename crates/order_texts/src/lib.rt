@@ -4,7 +4,7 @@ use order_states::Gathered;
 use sets::Set;
 ghost use mathlib.Core.Path.{_≡_};
 ghost use Prim.Native.Nat.{_/_, _≤_};
-ghost use lib.ListN.{length, take, replicate};
+ghost use lib.ListN.{length, take};
 ghost use Rattle.sets.specs.Set.{setOf};
 ghost use Rattle.shapes.specs.Shape.{textOf, total, blockCount};
 ghost use Rattle.shapes.specs.Lent.{Whole, shapeOf};
@@ -16,20 +16,6 @@ ghost use Rattle.order_guides.specs.Guide.{Plain, guideOf};
 ghost use Rattle.order_rows.specs.Laid.{Laid};
 ghost use Rattle.order_texts.specs.Narrowed.{One};
 ghost use Rattle.order_texts.specs.Freed.{Freed};
-
-// A row to each of 64 blocks, blank.
-fn blank() -> [u64; 256]
-    ensures { λ r. ⌜ r ≡ replicate 256 0 ⌝ }
-{
-    [0u64; 256]
-}
-
-// A row to each of 251 numbers of matched characters, blank.
-fn blank_rows() -> [u64; 1004]
-    ensures { λ r. ⌜ r ≡ replicate 1004 0 ⌝ }
-{
-    [0u64; 1004]
-}
 
 // Where a run may end early, and where a character may be taken.
 struct Places {
@@ -85,12 +71,12 @@ fn narrow_laid(
 ) -> bool
     requires { ⌜ Laid (now x) (now zones) (now ends) (now slots) × (u ≡ total (shapeOf (now x))) ⌝ }
     requires { ⌜ Plain (now text) m × (m ≤ 250) ⌝ }
-    requires { ⌜ (blockCount (now x) ≤ 64) × (length (now x) ≤ length (now out)) ⌝ }
+    requires { ⌜ (blockCount (now x) ≤ 32) × (length (now x) ≤ length (now out)) ⌝ }
     ensures { λ r. ⌜ One (Kept (guideOf d strict (take m (now (text .entry))))) (now (x .entry)) (now (out .entry)) (now (out .exit)) r ⌝ }
 {
-    let mut rows = blank_rows();
+    let mut rows = rows::blank_table();
     let n = order_forth::forth(x, zones, ends, slots, text, m, &mut rows);
-    let mut chars = blank();
+    let mut chars = rows::blank();
     let g = order_back::gather(
         d,
         strict,
@@ -113,7 +99,7 @@ fn narrow_laid(
     true
 }
 
-// Narrows a shape of at most 64 blocks by the first m bytes of a text: at most them (least) or at least them (greatest), before or after them if strict.
+// Narrows a shape of at most 32 blocks by the first m bytes of a text: at most them (least) or at least them (greatest), before or after them if strict.
 pub fn narrow_side(
     d: Direction,
     strict: bool,
@@ -124,12 +110,12 @@ pub fn narrow_side(
 ) -> bool
     requires { ⌜ Whole (now x) ⌝ }
     requires { ⌜ Plain (now text) m ⌝ }
-    requires { ⌜ (m ≤ 250) × (blockCount (now x) ≤ 64) × (length (now x) ≤ length (now out)) ⌝ }
+    requires { ⌜ (m ≤ 250) × (blockCount (now x) ≤ 32) × (length (now x) ≤ length (now out)) ⌝ }
     ensures { λ r. ⌜ One (λ f. Side d strict (textOf f) (take m (now (text .entry)))) (now (x .entry)) (now (out .entry)) (now (out .exit)) r ⌝ }
 {
-    let mut zones = blank();
-    let mut ends = blank();
-    let mut slots = blank();
+    let mut zones = rows::blank();
+    let mut ends = rows::blank();
+    let mut slots = rows::blank();
     let u = row_lay::lay(x, &mut zones, &mut ends, &mut slots);
     narrow_laid(d, strict, x, &zones, &ends, &slots, u, text, m, out)
 }

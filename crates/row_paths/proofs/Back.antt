@@ -1,5 +1,5 @@
 -- One row to the ends, and what it adds to what is gathered. Assumes nothing.
-use mathlib.Core.Path.{_≡_, refl, sym, ap, _∙_, subst}
+use mathlib.Core.Path.{_≡_, refl, sym, _∙_, subst}
 use mathlib.Core.Bool.{Bool, true, false, not, true≢false}
 use mathlib.Core.Logic.{_⊎_, inl, inr, ⊎-elim}
 use Prim.Native.Nat.{ℕ, _+_, _-_, _/_, _≤_, _<_}
@@ -16,8 +16,8 @@ use Rattle.bases.proofs.Sets.{meets-of}
 use Rattle.sets.specs.Set.{Exactly}
 use Rattle.sets.proofs.Exact.{exactly-as, exactly-at, none-exactly, both-exactly, either-exactly, down-exactly}
 use Rattle.shapes.specs.Shape.{Block}
-use Rattle.rests.specs.Walk.{Path, Bounded, second}
-use Rattle.rests.proofs.Walks.{turn-path, path-from}
+use Rattle.rests.specs.Walk.{Path, second}
+use Rattle.rests.proofs.Walks.{turn-path}
 use Rattle.rows.specs.Steps.{Leads, Lands}
 use Rattle.row_paths.specs.Rows.{Zones, BlockIn, LeadsOn, end, ended, taken, Quits, Takes, From, Seen, Used, Gathered}
 use Rattle.row_paths.proofs.Left.{left-row}

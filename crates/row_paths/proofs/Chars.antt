@@ -1,16 +1,15 @@
 -- The characters that blocks are given, block by block of the first shape; before the first and after the last. Assumes nothing.
-use mathlib.Core.Path.{_≡_, refl, sym, ap, _∙_, subst}
+use mathlib.Core.Path.{_≡_, refl, sym, subst}
 use mathlib.Core.Logic.{_⊎_, inl, inr, ⊎-elim}
-use Prim.Native.Nat.{ℕ, _+_, _-_, _≤_, _<_}
+use Prim.Native.Nat.{ℕ, _-_, _≤_, _<_}
 use native.Mathlib.Omega.{arith}
 use lib.Bits.{bitAnd, bitOr}
-use Rattle.bases.specs.Base.{Holds, Meets}
+use Rattle.bases.specs.Base.{Holds}
 use Rattle.bases.proofs.Plain.{lt-or-le}
 use Rattle.sets.specs.Set.{Exactly}
 use Rattle.sets.proofs.Exact.{exactly-as, none-exactly, either-exactly}
 use Rattle.shapes.specs.Shape.{Block}
 use Rattle.rests.specs.Walk.{Path, Bounded}
-use Rattle.rests.proofs.Walks.{turn-path}
 use Rattle.rows.specs.Steps.{Leads, Lands, Matched, Given}
 use Rattle.row_paths.specs.Rows.{Zones, LeadsOn, end, ended, taken, Quits, Takes, From, Seen, Used, Gives, Gathered}
 use Rattle.row_paths.proofs.Left.{left-row}

@@ -10,7 +10,7 @@ use Rattle.bases.proofs.Sets as bits
 use Rattle.sets.specs.Set.{Exactly, OneUp}
 use Rattle.sets.proofs.Exact.{exactly-as, none-exactly, both-exactly, either-exactly, up-exactly}
 use Rattle.shapes.specs.Shape.{Block}
-use Rattle.rests.specs.Walk.{Path, lessen}
+use Rattle.rests.specs.Walk.{Path}
 use Rattle.rests.proofs.Walks.{path-from}
 use Rattle.row_paths.specs.Rows.{Zones, BlockIn, Entered, start, ended, taken, Comes, Stops}
 

@@ -1,6 +1,6 @@
 -- Rows to the ends: closed backwards under the ends of runs, a row is what one text leads on from. Assumes nothing.
 use mathlib.Core.Path.{_≡_, refl, sym, _∙_, subst}
-use Prim.Native.Nat.{ℕ, _+_}
+use Prim.Native.Nat.{ℕ}
 use Rattle.bases.specs.Base.{Holds}
 use Rattle.sets.specs.Set.{Exactly}
 use Rattle.shapes.specs.Shape.{Block}

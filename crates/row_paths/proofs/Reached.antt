@@ -1,16 +1,13 @@
 -- Rows from the starts: closed forwards under the ends of runs, a row is what one text leads to. Assumes nothing.
-use mathlib.Core.Path.{_≡_, refl, sym, ap, _∙_, subst}
-use mathlib.Core.Logic.{⊎-elim}
-use Prim.Native.Nat.{ℕ, _+_, _-_, _≤_, _<_}
-use native.Mathlib.Omega.{arith}
-use Rattle.bases.specs.Base.{Holds, Meets}
-use Rattle.bases.proofs.Plain.{lt-or-le}
+use mathlib.Core.Path.{_≡_, refl, sym, _∙_, subst}
+use Prim.Native.Nat.{ℕ, _-_}
+use Rattle.bases.specs.Base.{Holds}
 use Rattle.sets.specs.Set.{Exactly}
 use Rattle.shapes.specs.Shape.{Block}
-use Rattle.rests.specs.Walk.{Move, first, second, both, Path, stay, move, lessen}
-use Rattle.rests.proofs.Walks.{path-then, path-from}
+use Rattle.rests.specs.Walk.{Move, first, second, both, Path, stay, move}
+use Rattle.rests.proofs.Walks.{path-then}
 use Rattle.rows.specs.Steps.{Leads, there, step}
-use Rattle.row_paths.specs.Rows.{Zones, BlockIn, Entered, start, ended, taken}
+use Rattle.row_paths.specs.Rows.{Zones, Entered, start, ended, taken}
 
 -- ---- the last move of a path from the starts
 

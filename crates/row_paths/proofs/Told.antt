@@ -3,17 +3,16 @@ use mathlib.Core.Path.{_≡_, refl, sym, ap, _∙_, subst}
 use mathlib.Core.Logic.{⊎-elim}
 use Prim.Native.Nat.{ℕ, _+_, _-_, _≤_, _<_}
 use native.Mathlib.Omega.{arith}
-use lib.Bits.{bitAnd}
 use Rattle.bases.specs.Base.{Holds, Meets}
 use Rattle.bases.proofs.Plain.{lt-or-le}
 use Rattle.bases.proofs.Sets as bits
 use Rattle.sets.specs.Set.{Exactly}
 use Rattle.shapes.specs.Shape.{Block}
-use Rattle.rests.specs.Walk.{first, second, both, Path, stay, move, Bounded}
+use Rattle.rests.specs.Walk.{first, second, both, Path, move, Bounded}
 use Rattle.rests.specs.Collect.{Passes, Ends, empty, filled, Collected}
-use Rattle.rests.proofs.Walks.{path-then, path-from, turn-path, text-of, below-character, ends-within}
+use Rattle.rests.proofs.Walks.{path-then, text-of, below-character, ends-within}
 use Rattle.row_blocks.specs.Blocks.{LengthBy, early, full, bare, ToldBy}
-use Rattle.row_paths.specs.Rows.{BlockIn, Quits, Takes, Seen, Used, Gives}
+use Rattle.row_paths.specs.Rows.{BlockIn, Quits, Takes, Seen, Gives}
 use Rattle.row_paths.proofs.Reached.{Led, begin, then, led}
 use Rattle.row_paths.proofs.Forth.{slot-base, slot-lower, slot-upper, ends-here}
 

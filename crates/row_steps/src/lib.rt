@@ -1,7 +1,7 @@
 // What steps lead to: a row closed under the ends of runs, forwards and backwards; and what pairs of sets pick.
 use sets::Set;
 ghost use mathlib.Core.Path.{_≡_};
-ghost use Prim.Native.Nat.{_/_, _≤_};
+ghost use Prim.Native.Nat.{_≤_};
 ghost use lib.ListN.{length};
 ghost use Rattle.sets.specs.Set.{setOf, Exactly};
 ghost use Rattle.shapes.specs.Lent.{blockAt};

@@ -5,12 +5,15 @@ use Prim.Native.Nat.{ℕ, _+_, _*_, _/_}
 use lib.ListN.{length, getD}
 use Rattle.bases.specs.Base.{baseOf}
 
--- So many words are a row; so many rows are some words. A table has a row for each position from 0 to 250.
+-- So many words are a row; so many rows are some words. A layout has a row for each of 32 blocks, a table for each position from 0 to 250.
 abbrev pub rowSize : ℕ
 rowSize = 4
 
 abbrev pub rowCount : List ℕ → ℕ
 rowCount xs = length xs / rowSize
+
+abbrev pub layoutSize : ℕ
+layoutSize = 128
 
 abbrev pub tableSize : ℕ
 tableSize = 1004

@@ -1,10 +1,10 @@
 // Rows of bits: sets of positions as words, one row after the other.
 use sets::Set;
 ghost use mathlib.Core.Path.{_≡_};
-ghost use Prim.Native.Nat.{_/_, _<_};
-ghost use lib.ListN.{length};
+ghost use Prim.Native.Nat.{_<_};
+ghost use lib.ListN.{replicate};
 ghost use Rattle.sets.specs.Set.{setOf};
-ghost use Rattle.rows.specs.Row.{rowIn, PutRow, rowCount};
+ghost use Rattle.rows.specs.Row.{rowCount, layoutSize, tableSize, rowIn, PutRow};
 
 // The words of a row.
 pub const SIZE: usize = 4;
@@ -33,4 +33,18 @@ pub fn put_row(rows: &mut [u64], j: usize, s: Set)
     rows[at + 1] = s.b;
     rows[at + 2] = s.c;
     rows[at + 3] = s.d;
+}
+
+// No rows yet: room for those of 32 blocks.
+pub fn blank() -> [u64; 128]
+    ensures { λ r. ⌜ r ≡ replicate layoutSize 0 ⌝ }
+{
+    [0u64; 128]
+}
+
+// No rows yet: room for those of 251 positions.
+pub fn blank_table() -> [u64; 1004]
+    ensures { λ r. ⌜ r ≡ replicate tableSize 0 ⌝ }
+{
+    [0u64; 1004]
 }

@@ -4,7 +4,6 @@ use answers::Refusal;
 use sets::Set;
 ghost use mathlib.Core.Path.{_≡_};
 ghost use Prim.Native.Nat.{_/_, _≤_, _<_};
-ghost use lib.ListN.{length};
 ghost use Rattle.bases.specs.Tells.{Tells};
 ghost use Rattle.shapes.specs.Shape.{Sound, Small, total, blockCount};
 ghost use Rattle.shapes.specs.Lent.{meant, blockAt, shapeOf, Put, BlocksChecked, ShapeChecked};

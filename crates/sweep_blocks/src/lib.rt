@@ -10,7 +10,6 @@ use sweep_steps::Stretched;
 ghost use mathlib.Core.Path.{_≡_};
 ghost use mathlib.Core.List.{reverse};
 ghost use Prim.Native.Nat.{_-_, _/_, _≤_};
-ghost use lib.ListN.{length};
 ghost use Rattle.shapes.specs.Lent.{meant, shapeOf};
 ghost use Rattle.sweep_steps.specs.Places.{numberOf, nth};
 ghost use Rattle.sweep_steps.specs.Steps.{pushLook, stretchLook};

@@ -1,5 +1,5 @@
 -- `book_steps::apply_rule`: the two texts of the rule are narrowed, and what comes of them is laid over their places. Assumes nothing.
-use mathlib.Core.Path.{_≡_, sym, _∙_, subst}
+use mathlib.Core.Path.{sym, _∙_, subst}
 use mathlib.Core.List.{List}
 use Prim.Native.Nat.{ℕ}
 use native.Mathlib.Omega.{arith}

@@ -1,5 +1,5 @@
 -- `book_steps::lay_text`: the numbers at the text's place, compared with the new ones and laid over. Assumes nothing.
-use mathlib.Core.Path.{_≡_, sym, ap, _∙_, subst}
+use mathlib.Core.Path.{_≡_, sym, ap, _∙_}
 use Prim.Native.Nat.{ℕ, _+_, _-_, _≤_}
 use native.Mathlib.Omega.{arith}
 use lib.ListN.{length, take, drop, length-drop}
@@ -7,7 +7,7 @@ use lib.Seq.{length-take-le}
 use Rattle.bases.proofs.Tells.{tells-true, tells-false}
 use Rattle.book_laying.specs.Laid.{replaced}
 use Rattle.book_laying.proofs.Laid.{stood-there}
-use Rattle.book_steps.proofs.Texts.{at, taken-is, laid-is, compared}
+use Rattle.book_steps.proofs.Texts.{at, laid-is, compared}
 use borrow.Author.Needs.{needs}
 use Rattle.book_steps.proofs.lay_text.Statement.{statement}
 use Rattle.book_steps.proofs.lay_text.Tie as tie

@@ -1,7 +1,6 @@
 -- `book_steps::narrow_rule`: the two texts are accepted shapes, so narrowing does not refuse them. Assumes nothing.
 use mathlib.Core.Path.{sym, subst}
 use native.Mathlib.Omega.{arith}
-use lib.ListN.{length}
 use Rattle.shapes.specs.Lent.{Accepted}
 use Rattle.pairs.specs.Pair.{PairAccepted}
 use Rattle.book_steps.proofs.Standing.{text-accepted}

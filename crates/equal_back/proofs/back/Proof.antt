@@ -5,7 +5,7 @@ use native.Mathlib.Omega.{arith}
 use lib.ListN.{length}
 use Rattle.sets.specs.Set.{setOf}
 use Rattle.shapes.specs.Shape.{Block}
-use Rattle.row_lay.proofs.Laid.{upper-within, total-more}
+use Rattle.row_lay.proofs.Laid.{upper-within}
 use Rattle.rows.specs.Row.{rowIn}
 use Rattle.rows.specs.Steps.{InTurn}
 use Rattle.equal_forth.proofs.Pass.{in-turn-of}

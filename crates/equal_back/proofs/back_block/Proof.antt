@@ -1,13 +1,11 @@
 -- `equal_back::back_block`: row by row, from the block's end to its start. Assumes nothing.
-use mathlib.Core.Path.{_≡_, refl, sym, subst}
-use Prim.Native.Nat.{ℕ, _+_, _≤_, _<_}
+use mathlib.Core.Path.{refl}
+use Prim.Native.Nat.{_≤_}
 use native.Mathlib.Omega.{arith}
-use Rattle.sets.specs.Set.{setOf, Exactly}
-use Rattle.shapes.specs.Shape.{Block}
+use Rattle.sets.specs.Set.{setOf}
 use Rattle.shapes.specs.Lent.{meant}
-use Rattle.rests.specs.Walk.{Path}
 use Rattle.rows.specs.Row.{rowIn}
-use Rattle.equal_back.specs.Back.{GatheredAt, Whenever, RowsBack}
+use Rattle.equal_back.specs.Back.{Whenever, RowsBack}
 use Rattle.equal_back.proofs.Rows.{rows-start, rows-more, rows-end}
 use borrow.Author.Needs.{needs}
 use Rattle.equal_back.proofs.back_block.Statement.{statement}

@@ -2,7 +2,6 @@
 use native.Mathlib.Omega.{arith}
 use Rattle.sets.specs.Set.{setOf}
 use Rattle.row_paths.proofs.Back.{gathered-more}
-use Rattle.equal_back.specs.Back.{Whenever}
 use borrow.Author.Needs.{needs}
 use Rattle.equal_back.proofs.back_row.Statement.{statement}
 use Rattle.equal_back.proofs.back_row.Tie as tie

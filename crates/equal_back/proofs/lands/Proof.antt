@@ -1,5 +1,5 @@
 -- `equal_back::lands`: only where the run may end. Assumes nothing.
-use mathlib.Core.Path.{_≡_, sym, _∙_}
+use mathlib.Core.Path.{sym, _∙_}
 use mathlib.Core.Bool.{true≢false}
 use Rattle.bases.proofs.Tells.{tells-false}
 use borrow.Author.Needs.{needs}

@@ -1,5 +1,5 @@
 -- `equal_back::with_number`: one branch for each answer. Assumes nothing.
-use mathlib.Core.Path.{_≡_, refl, sym, _∙_}
+use mathlib.Core.Path.{sym, _∙_}
 use mathlib.Core.Bool.{true≢false}
 use mathlib.Core.Logic.{inl, inr, ⊎-elim}
 use Rattle.sets.specs.Set.{setOf}

@@ -1,12 +1,10 @@
 -- `equal_forth::forth`: block by block, what the last block leaves enters the next. Assumes nothing.
 use mathlib.Core.Path.{_≡_, sym, subst, ap, _∙_}
-use mathlib.Core.List.{List}
-use Prim.Native.Nat.{ℕ, _+_, _-_, _/_, _≤_, _<_}
+use Prim.Native.Nat.{_+_, _-_, _/_, _≤_}
 use native.Mathlib.Omega.{arith}
 use lib.ListN.{length}
 use Rattle.sets.specs.Set.{setOf}
 use Rattle.shapes.specs.Shape.{Block}
-use Rattle.shapes.specs.Lent.{meant, blockAt}
 use Rattle.row_lay.proofs.Laid.{upper-within, total-all}
 use Rattle.equal_forth.specs.Forth.{PassTo}
 use Rattle.rows.specs.Row.{rowIn}

@@ -1,11 +1,11 @@
 -- `equal_forth::forth_block`: each row is the closure of what enters it; one character on, or the end of the run, enters the next. Assumes nothing.
-use mathlib.Core.Path.{_≡_, sym, subst, _∙_}
+use mathlib.Core.Path.{_≡_}
 use Prim.Native.Nat.{_-_, _≤_}
 use native.Mathlib.Omega.{arith}
 use Rattle.sets.specs.Set.{setOf}
 use Rattle.shapes.specs.Lent.{meant}
 use Rattle.rows.specs.Row.{rowIn}
-use Rattle.equal_forth.specs.Forth.{RowsTo, BlockRows, Follows, RowsKept}
+use Rattle.equal_forth.specs.Forth.{RowsTo, Follows, RowsKept}
 use Rattle.equal_forth.proofs.Rows.{rows-none, rows-more, rows-block, rows-end, before-none, before-more}
 use borrow.Author.Needs.{needs}
 use Rattle.equal_forth.proofs.forth_block.Statement.{statement}

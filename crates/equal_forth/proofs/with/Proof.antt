@@ -1,5 +1,5 @@
 -- `equal_forth::with`: one branch for each answer. Assumes nothing.
-use mathlib.Core.Path.{_≡_, refl, sym, _∙_}
+use mathlib.Core.Path.{refl, sym, _∙_}
 use mathlib.Core.Bool.{true≢false}
 use borrow.Author.Needs.{needs}
 use Rattle.equal_forth.proofs.with.Statement.{statement}

@@ -30,8 +30,8 @@ lay-requires c κs = search needs
 blank-requires-4 : tie.Need-blank-requires-4
 blank-requires-4 c κs = search needs
 
-blank-rows-requires : tie.Need-blank-rows-requires
-blank-rows-requires c κs = search needs
+blank-table-requires : tie.Need-blank-table-requires
+blank-table-requires c κs = search needs
 
 slice-aggregate-forth : tie.Need-slice-aggregate-forth
 slice-aggregate-forth c = search needs
@@ -105,7 +105,7 @@ narrow-equal-spec =
     slice-aggregate-lay-3
     lay-requires
     blank-requires-4
-    blank-rows-requires
+    blank-table-requires
     slice-aggregate-forth
     slice-aggregate-forth-2
     slice-aggregate-forth-3

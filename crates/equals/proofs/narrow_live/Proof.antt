@@ -27,7 +27,7 @@ back-requires c κs =
     let ends = long .1 in
     let slots = long .2 in
     let mines = long .3 in
-    (s .0, (s .1 .1 .1 .1 .0, (s .1 .1 .1 .1 .1 .0, (record { zones-long = omega arith; ends-long = omega arith; slots-long = omega arith; mines-long = omega arith; rows-long = long .4; own-long = search needs; others-long = search needs }, blank-long 256 (c .before .before .blank2 .ensures)))))
+    (s .0, (s .1 .1 .1 .1 .0, (s .1 .1 .1 .1 .1 .0, (record { zones-long = omega arith; ends-long = omega arith; slots-long = omega arith; mines-long = omega arith; rows-long = long .4; own-long = search needs; others-long = search needs }, blank-long 128 (c .before .before .blank2 .ensures)))))
 
 slice-aggregate-narrow-blocks : tie.Need-slice-aggregate-narrow-blocks
 slice-aggregate-narrow-blocks c = search needs

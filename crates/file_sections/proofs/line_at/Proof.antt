@@ -1,6 +1,5 @@
 -- `file_sections::line_at`: the line before the first newline. Assumes nothing.
 use mathlib.Core.Path.{sym, subst}
-use mathlib.Core.Bool.{true, false}
 use native.Mathlib.Omega.{arith}
 use lib.Seq.{length-take-le}
 use Rattle.file_lines.specs.Lines.{First, FoundIn}

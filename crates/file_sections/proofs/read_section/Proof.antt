@@ -1,14 +1,13 @@
 -- `file_sections::read_section`: the count, then the lines that it counts. Assumes nothing.
-use mathlib.Core.Path.{_≡_, sym, ap, subst, subst₂}
+use mathlib.Core.Path.{sym, ap, subst, subst₂}
 use mathlib.Core.List.{List}
 use Prim.Native.Nat.{ℕ, _*_, _≤_}
 use native.Mathlib.Nat.{mul-le-mul-right}
 use native.Mathlib.Omega.{arith}
-use lib.ListN.{length, drop, length-drop}
+use lib.ListN.{length, length-drop}
 use Rattle.file_lines.specs.Book.{headLine}
 use Rattle.file_lines.specs.Lines.{Without}
 use Rattle.file_lines.proofs.Read.{rest-of}
-use Rattle.file_sections.specs.declared.NumberAt.{NumberAt}
 use Rattle.file_sections.specs.Steps.{DepartsFrom}
 use Rattle.file_sections.specs.Items.{sizeOf, RightItem, lineOf, wordOf, mostOf, toCome, itemsOf}
 use Rattle.file_sections.specs.Parts.{LineIs, LinesAre, LinesRead, HeadAt}

@@ -31,8 +31,8 @@ start g = g .before .before .before .before .before .before .before .before .bef
 first : (h : tie.After-has) → h .has .result ≡ true → Holds (setOf (h .before .before .gather .result .clear)) 0
 first h e = h .has .ensures .so e
 
-blank-rows-requires : tie.Need-blank-rows-requires
-blank-rows-requires c κs = search needs
+blank-table-requires : tie.Need-blank-table-requires
+blank-table-requires c κs = search needs
 
 slice-aggregate-forth : tie.Need-slice-aggregate-forth
 slice-aggregate-forth c = search needs
@@ -55,10 +55,10 @@ gather-requires c κs =
     let f = c .before .before .before .before .forth .ensures in
     let few = s .pre .1 .1 .0 in
     let whole = s .pre .0 .0 .whole .blocks in
-    let b = ap length (c .before .before .blank .ensures) ∙ length-replicate {A = ℕ} 256 0 in
-    let r = ap length (c .before .before .before .before .before .before .blank-rows .ensures) ∙ length-replicate {A = ℕ} 1004 0 in (
+    let b = ap length (c .before .before .blank .ensures) ∙ length-replicate {A = ℕ} 128 0 in
+    let r = ap length (c .before .before .before .before .before .before .blank-table .ensures) ∙ length-replicate {A = ℕ} 1004 0 in (
       record { laid = s .pre .0 .0; size = s .pre .0 .1; plain = s .pre .1 .0 .0; short = s .pre .1 .0 .1; rows-long = f .1 ∙ r; room = omega arith },
-      (f .0, λ j h. blank-row _ 256 j (c .before .before .blank .ensures)),
+      (f .0, λ j h. blank-row _ 128 j (c .before .before .blank .ensures)),
     )
 
 has-requires : tie.Need-has-requires
@@ -81,7 +81,7 @@ freed-requires c κs =
     let z = l .zones-long in
     let e = l .ends-long in
     let w = l .slots-long in
-    let b = ap length (g .before .before .before .blank .ensures) ∙ length-replicate {A = ℕ} 256 0 in
+    let b = ap length (g .before .before .before .blank .ensures) ∙ length-replicate {A = ℕ} 128 0 in
     let long = g .gather .ensures .1 in
     let size = start g .pre .0 .1 in
     let short = l .whole .short in
@@ -97,7 +97,7 @@ narrow-blocks-requires c κs =
     let l = start g .pre .0 .0 in
     let few = start g .pre .1 .1 .0 in
     let whole = l .whole .blocks in
-    let b = ap length (g .before .before .before .blank .ensures) ∙ length-replicate {A = ℕ} 256 0 in
+    let b = ap length (g .before .before .before .blank .ensures) ∙ length-replicate {A = ℕ} 128 0 in
     let long = g .gather .ensures .1 in
     let same = f .freed .ensures .1 in
     let yes = not-false _ (f .before .before .if1 .left) in
@@ -120,7 +120,7 @@ pub narrow-laid-spec : {M : Type 1} → statement M
 narrow-laid-spec =
     tie.close
     (tie.spec
-    blank-rows-requires
+    blank-table-requires
     slice-aggregate-forth
     forth-requires
     blank-requires

@@ -55,9 +55,9 @@ narrow-laid-requires c κs =
     let few = p .1 in
     let whole = s .pre .0 .blocks in
     let k = y .lay .kept in
-    let z = k .1 .0 ∙ ap length (b .before .before .blank .ensures) ∙ length-replicate {A = ℕ} 256 0 in
-    let e = k .1 .1 .0 ∙ ap length (b .before .blank2 .ensures) ∙ length-replicate {A = ℕ} 256 0 in
-    let w = k .1 .1 .1 .0 ∙ ap length (b .blank3 .ensures) ∙ length-replicate {A = ℕ} 256 0 in (
+    let z = k .1 .0 ∙ ap length (b .before .before .blank .ensures) ∙ length-replicate {A = ℕ} 128 0 in
+    let e = k .1 .1 .0 ∙ ap length (b .before .blank2 .ensures) ∙ length-replicate {A = ℕ} 128 0 in
+    let w = k .1 .1 .1 .0 ∙ ap length (b .blank3 .ensures) ∙ length-replicate {A = ℕ} 128 0 in (
       (record { whole = s .pre .0; lay = y .lay .ensures .1; zones-long = omega arith; ends-long = omega arith; slots-long = omega arith }, y .lay .ensures .0),
       ((s .pre .1 .0, p .0), (p .1, p .2)),
     )
