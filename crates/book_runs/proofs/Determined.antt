@@ -10,8 +10,8 @@ use Rattle.shapes.specs.Shape.{Block}
 use Rattle.shapes.specs.Lent.{wordsOf}
 use Rattle.hulls.specs.Hull.{none, shapes}
 use Rattle.books.proofs.Refused.{book-one, book-not}
-use Rattle.book_runs.specs.Walk.{RunPromise}
-use Rattle.book_runs.proofs.Walk.{walk-one}
+use Rattle.book_runs.specs.Rounds.{RunPromise}
+use Rattle.book_runs.proofs.Rounds.{walk-one}
 
 -- an outcome is none, or some shapes
 pub same-shapes : {H J : List Block} → shapes H ≡ shapes J → H ≡ J

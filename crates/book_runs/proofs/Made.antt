@@ -11,8 +11,8 @@ use Rattle.shapes.specs.All.{All}
 use Rattle.shapes.specs.Shape.{Block, Sound, Small}
 use Rattle.hulls.specs.Hull.{None, Hull, Outcome, none, shapes}
 use Rattle.book_runs.specs.Room.{roomOf}
-use Rattle.book_runs.specs.Walk.{Walk}
-use Rattle.book_runs.specs.Walk.Walk.{stops, keeps, changes, round, rests}
+use Rattle.book_runs.specs.Rounds.{Rounds}
+use Rattle.book_runs.specs.Rounds.Rounds.{stops, keeps, changes, round, rests}
 use Rattle.book_runs.specs.Code.{owed, Made}
 use Rattle.book_runs.proofs.Falls.{hull-falls, room-bound}
 
@@ -26,30 +26,30 @@ paid n false m k r s z h f =
 
 module _ {n : ℕ} {P : ℕ → List (List ℕ) → Type 0} {Z : List Block} where
   -- one application more, of those made or of those ahead
-  one-on : {o : Outcome} (m l : ℕ) → Walk n P Z 0 false o (m + suc l) → Walk n P Z 0 false o (m + 1 + l)
-  one-on {o} m l w = subst (Walk n P Z 0 false o) (let e : m + suc l ≡ m + 1 + l = omega arith in e) w
+  one-on : {o : Outcome} (m l : ℕ) → Rounds n P Z 0 false o (m + suc l) → Rounds n P Z 0 false o (m + 1 + l)
+  one-on {o} m l w = subst (Rounds n P Z 0 false o) (let e : m + suc l ≡ m + 1 + l = omega arith in e) w
 
   pub made-start : Made n P Z Z 0 false 0
-  made-start = record { ahead = λ o l w. subst (Walk n P Z 0 false o) (sym (zero-add l)) w; few = omega arith }
+  made-start = record { ahead = λ o l w. subst (Rounds n P Z 0 false o) (sym (zero-add l)) w; few = omega arith }
 
   module _ {S : List Block} {k : ℕ} {c : Bool} {m : ℕ} (d : Made n P Z S k c m) where
     -- the count stays below a bound that the entered blocks give: the measure of the runner's loop
     pub made-most : k ≤ n → m ≤ n * roomOf Z + n
     made-most h = let f = d .few in omega arith
 
-    pub made-none : k < n → None (P k) S → Walk n P Z 0 false none (m + 1)
+    pub made-none : k < n → None (P k) S → Rounds n P Z 0 false none (m + 1)
     made-none h x = d .ahead none (suc zero) (stops h x)
 
     pub made-same : k < n → Hull (P k) S S → Made n P Z S (k + 1) c (m + 1)
     made-same h x = record {
-      ahead = λ o l w. one-on m l (d .ahead o (suc l) (keeps h x (subst (λ (j : ℕ). Walk n P S j c o l) (add-one k) w)));
+      ahead = λ o l w. one-on m l (d .ahead o (suc l) (keeps h x (subst (λ (j : ℕ). Rounds n P S j c o l) (add-one k) w)));
       few = let f = d .few in omega arith;
     }
 
   pub made-changed : {S H : List Block} {k : ℕ} {c : Bool} {m : ℕ} → Made n P Z S k c m → All Sound S → All Small S → k < n → Hull (P k) S H → (H ≡ S → ⊥)
       → Made n P Z H (k + 1) true (m + 1)
   made-changed {S} {H} {k} {c} {m} d s b h x y = record {
-    ahead = λ o l w. one-on m l (d .ahead o (suc l) (changes h x y (subst (λ (j : ℕ). Walk n P H j true o l) (add-one k) w)));
+    ahead = λ o l w. one-on m l (d .ahead o (suc l) (changes h x y (subst (λ (j : ℕ). Rounds n P H j true o l) (add-one k) w)));
     few = paid n c m k (roomOf H) (roomOf S) (n * roomOf Z) (hull-falls s b x y) (d .few);
   }
 
@@ -58,10 +58,10 @@ module _ {n : ℕ} {P : ℕ → List (List ℕ) → Type 0} {Z : List Block} whe
       let moved : Made n P Z S k true m = subst (λ (x : Bool). Made n P Z S k x m) t d in
       record { ahead = λ o l w. moved .ahead o l (round e w); few = let f = moved .few in omega arith }
 
-  pub made-stable : {S : List Block} {k : ℕ} {c : Bool} {m : ℕ} → Made n P Z S k c m → k ≡ n → c ≡ false → Walk n P Z 0 false (shapes S) m
+  pub made-stable : {S : List Block} {k : ℕ} {c : Bool} {m : ℕ} → Made n P Z S k c m → k ≡ n → c ≡ false → Rounds n P Z 0 false (shapes S) m
   made-stable {S} {k} {c} {m} d e t =
       let still : Made n P Z S k false m = subst (λ (x : Bool). Made n P Z S k x m) t d in
-      subst (Walk n P Z 0 false (shapes S)) (add-zero m) (still .ahead (shapes S) zero (rests e))
+      subst (Rounds n P Z 0 false (shapes S)) (add-zero m) (still .ahead (shapes S) zero (rests e))
 
 -- so it counts within a machine's number
 pub made-count : {n : ℕ} {P : ℕ → List (List ℕ) → Type 0} {Z S : List Block} {k : ℕ} {c : Bool} {m : ℕ} → Made n P Z S k c m → k ≤ n → n ≤ 16 → length Z ≤ 256

@@ -1,5 +1,5 @@
 -- The run of a book by steps, and what it promises.
-pub mod Walk
+pub mod Rounds
 pub mod Room
 pub mod Code
 pub mod Runner

@@ -8,9 +8,9 @@ use Rattle.rules.specs.Rule.{ruleCount}
 use Rattle.book_runs.specs.declared.Ended.{Ended}
 use Rattle.book_runs.specs.declared.Ended.the-variants.{Stable as is-stable, None as is-none}
 use Rattle.books.specs.Rules.{ruleOf}
-use Rattle.book_runs.specs.Walk.{Walk}
+use Rattle.book_runs.specs.Rounds.{Rounds}
 
 -- all rounds
 abbrev pub EndedSays : List ℕ → List ℕ → List ℕ → List ℕ → Ended → Type 0
-EndedSays counts rules xs ys (is-stable m) = Walk (ruleCount rules) (ruleOf counts rules) (shapeOf xs) 0 false (shapes (shapeOf ys)) m
-EndedSays counts rules xs ys (is-none m) = Walk (ruleCount rules) (ruleOf counts rules) (shapeOf xs) 0 false none m
+EndedSays counts rules xs ys (is-stable m) = Rounds (ruleCount rules) (ruleOf counts rules) (shapeOf xs) 0 false (shapes (shapeOf ys)) m
+EndedSays counts rules xs ys (is-none m) = Rounds (ruleCount rules) (ruleOf counts rules) (shapeOf xs) 0 false none m

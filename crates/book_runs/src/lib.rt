@@ -3,7 +3,7 @@ use answers::Checked;
 use answers::Ran;
 use book_steps::Applied;
 ghost use Rattle.book_steps.specs.Step.{Running};
-ghost use Rattle.book_runs.specs.Walk.{RunPromise};
+ghost use Rattle.book_runs.specs.Rounds.{RunPromise};
 ghost use Rattle.book_runs.specs.Runner.{EndedSays};
 
 // How the rounds end: with stable numbers or with none; each with the applications made.

@@ -8,7 +8,7 @@ use Rattle.answers.specs.declared.Narrowed.{Narrowed}
 use Rattle.answers.specs.declared.Ran.{Ran}
 use Rattle.answers.specs.declared.Swept.{Swept}
 use Rattle.answers.specs.declared.Written.{Written}
-use Rattle.book_runs.specs.Walk.{RunPromise}
+use Rattle.book_runs.specs.Rounds.{RunPromise}
 use Rattle.extremes.specs.declared.Direction.the-variants.{Least, Greatest}
 use Rattle.extremes.specs.Extreme.{ExtremePromise}
 use Rattle.file_runs.specs.Promise.{FilePromise}

@@ -18,10 +18,10 @@ use Rattle.books.specs.Counts.{RightCount}
 use Rattle.rules.specs.Rule.{ruleAt, ruleCount}
 use Rattle.books.specs.Rules.{ruleOf, AllIn}
 use Rattle.books.specs.Refused.{RightRules, BookAccepted}
-use Rattle.book_runs.specs.Walk.{Walk, RunStable, RunNone}
-use Rattle.book_runs.specs.Walk.Walk.{stops, keeps, changes, round as again, rests as stays}
+use Rattle.book_runs.specs.Rounds.{Rounds, RunStable, RunNone}
+use Rattle.book_runs.specs.Rounds.Rounds.{stops, keeps, changes, round as again, rests as stays}
 use Rattle.book_steps.specs.Step.{Standing}
-use Rattle.book_runs.proofs.Walk.{Kept, one-kept, among}
+use Rattle.book_runs.proofs.Rounds.{Kept, one-kept, among}
 use Rattle.book_laying.proofs.Shapes.{same-numbers}
 use Rattle.book_steps.proofs.Standing.{standing-first}
 use Rattle.demands.specs.Calls.{after, LeftAlone, Ending, none, numbers, Calls, says-none, rests, goes-on, InOrder, ends, next, round, WidestLeft}
@@ -119,7 +119,7 @@ module _ {counts rules : List ℕ} (each : All RightCount counts) (right : Right
         (k ∷ rest .0, goes-on k l c (rest .1), next l (rest .2), ap suc (rest .3))
 
     walk-calls : {xs : List ℕ} {S : List Block} {k : ℕ} {b : Bool} {o : Outcome} {m : ℕ} → shapeOf xs ≡ S → Standing counts xs → Numbers xs
-        → Kept (ruleOf counts rules) S k b → Walk (ruleCount rules) (ruleOf counts rules) S k b o m → Sequence xs k o m
+        → Kept (ruleOf counts rules) S k b → Rounds (ruleCount rules) (ruleOf counts rules) S k b o m → Sequence xs k o m
     unfolding endingOf
     walk-calls {xs} {k} e d w f (stops a x) =
         (k ∷ [], says-none k a (none-call d (ruleAt rules k) (right .each k a) each w work room (subst (None (ruleOf counts rules k)) (sym e) x)), next a ends, refl)

@@ -27,7 +27,7 @@ pub struct Gathered {
 }
 
 // Where the runs of each shape end early, and where it takes a character.
-pub struct Told {
+pub struct Ways {
     pub stops: Set,
     pub takes: Set,
     pub quit: Set,
@@ -169,7 +169,7 @@ pub fn back(
     last: Set,
     own: &mut [u64],
     others: &mut [u64],
-) -> Told
+) -> Ways
     requires { ⌜ Whole (now x) × Whole (now y) ⌝ }
     requires { ⌜ Lay (shapeOf (now y)) (now zones) (now ends) (now slots) ⌝ }
     requires { ⌜ Pass (now x) (now y) (now mines) (now rows) (setOf last) ⌝ }
@@ -198,7 +198,7 @@ pub fn back(
     let quit = g.quit;
     let stops = g.stops;
     let takes = g.takes;
-    Told {
+    Ways {
         stops: stops,
         takes: takes,
         quit: quit,

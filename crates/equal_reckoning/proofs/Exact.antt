@@ -10,7 +10,7 @@ use lib.ListN.{length, getD, take}
 use Rattle.bases.specs.Tells.{Tells}
 use Rattle.shapes.specs.All.{All}
 use Rattle.shapes.specs.Shape.{Block, Sound, total, noBlock}
-use Rattle.hulls.specs.Hull.{Pairs, Narrows, to-none, to-shapes}
+use Rattle.hulls.specs.Hull.{Pairs, NarrowsTo, to-none, to-shapes}
 use Rattle.rests.specs.Walk.{slotAt, Path, Bounded, Same}
 use Rattle.rests.specs.Collect.{Collected}
 use Rattle.rests.proofs.Walks.{turn-path}
@@ -74,12 +74,12 @@ module _ (X Y : List Block) (gx : All Sound X) (gy : All Sound Y) {T : ℕ → �
       (block-says (place X Y gx i h) t (some-first X Y gx gy p i h .1))
 
 module _ (X Y : List Block) (gx : All Sound X) (gy : All Sound Y) where
-  exact-table : (t : List (List ℕ)) → Told (slotAt X) (slotAt Y) (total X) (total Y) (cellOf t) → Narrows (Pairs Same (length X)) (X ++ Y) (fromTable X Y t)
+  exact-table : (t : List (List ℕ)) → Told (slotAt X) (slotAt Y) (total X) (total Y) (cellOf t) → NarrowsTo (Pairs Same (length X)) (X ++ Y) (fromTable X Y t)
   unfolding fromTable outcome
   exact-table t k = go (eqb (cellOf t 0 0) 0) refl
     where
       go : (v : Bool) → eqb (cellOf t 0 0) 0 ≡ v
-          → Narrows (Pairs Same (length X)) (X ++ Y) (outcome v (blocksOf (cellOf t) (slotAt Y) (total Y) 0 X ++ blocksOf (λ i j. cellOf t j i) (slotAt X) (total X) 0 Y))
+          → NarrowsTo (Pairs Same (length X)) (X ++ Y) (outcome v (blocksOf (cellOf t) (slotAt Y) (total Y) 0 X ++ blocksOf (λ i j. cellOf t j i) (slotAt X) (total X) 0 Y))
       go true e = to-none (equal-none X Y gx gy (λ p. let z = eqb-true (cellOf t 0 0) 0 e in let l = tells-ltb 0 (cellOf t 0 0) .so (tells-so (k .live 0 0 (omega arith) (omega arith)) p) in omega arith))
       go false e =
           let z = eqb-false (cellOf t 0 0) 0 e in
@@ -88,6 +88,6 @@ module _ (X Y : List Block) (gx : All Sound X) (gy : All Sound Y) where
           (side X Y gx gy k p) (side Y X gy gx (turn-told k) (turn-path p)))
 
   -- the function is exact
-  pub equal-exact : Narrows (Pairs Same (length X)) (X ++ Y) (equalHull X Y)
+  pub equal-exact : NarrowsTo (Pairs Same (length X)) (X ++ Y) (equalHull X Y)
   unfolding equalHull
   equal-exact = exact-table (tableOf (slotAt X) (slotAt Y) (total X) (total Y)) (told-table (bounded X) (bounded Y))

@@ -18,11 +18,11 @@ use Rattle.answers.specs.declared.Written.the-variants.{Text, Refused}
 use Rattle.hulls.specs.Hull.{Outcome, none, shapes}
 use Rattle.hulls.proofs.Hull.{hull-sound}
 use Rattle.books.specs.Refused.{BookRefused, BookAccepted}
-use Rattle.book_runs.specs.Walk.{Walk, BookRun, RunPromise}
-use Rattle.book_runs.specs.Walk.Walk.{stops, keeps, changes, round, rests}
+use Rattle.book_runs.specs.Rounds.{Rounds, BookRun, RunPromise}
+use Rattle.book_runs.specs.Rounds.Rounds.{stops, keeps, changes, round, rests}
 use Rattle.book_steps.proofs.Standing.{standing-first, few-blocks, blocks-sound}
 use Rattle.books.proofs.Refused.{book-one, book-not}
-use Rattle.book_runs.proofs.Walk.{walk-one}
+use Rattle.book_runs.proofs.Rounds.{walk-one}
 use Rattle.book_runs.proofs.Determined.{same-shapes, not-none}
 use Rattle.file_lines.specs.Book.{Book, RightBlock}
 use Rattle.files.specs.declared.Sizes.{Sizes}
@@ -55,7 +55,7 @@ SoundEnd : Outcome → Type 0
 SoundEnd none = Unit {0}
 SoundEnd (shapes H) = All Sound H
 
-sound-end : {n : ℕ} {P : ℕ → List (List ℕ) → Type 0} {S : List Block} {k : ℕ} {c : Bool} {o : Outcome} {m : ℕ} → Walk n P S k c o m → All Sound S → SoundEnd o
+sound-end : {n : ℕ} {P : ℕ → List (List ℕ) → Type 0} {S : List Block} {k : ℕ} {c : Bool} {o : Outcome} {m : ℕ} → Rounds n P S k c o m → All Sound S → SoundEnd o
 unfolding SoundEnd
 sound-end (stops l e) a = tt
 sound-end (keeps l h w) a = sound-end w a
@@ -63,7 +63,7 @@ sound-end (changes l h d w) a = sound-end w (hull-sound h a)
 sound-end (round e w) a = sound-end w a
 sound-end (rests e) a = a
 
-pub final-sound : {n : ℕ} {P : ℕ → List (List ℕ) → Type 0} {S H : List Block} {k : ℕ} {c : Bool} {m : ℕ} → Walk n P S k c (shapes H) m → All Sound S → All Sound H
+pub final-sound : {n : ℕ} {P : ℕ → List (List ℕ) → Type 0} {S H : List Block} {k : ℕ} {c : Bool} {m : ℕ} → Rounds n P S k c (shapes H) m → All Sound S → All Sound H
 unfolding SoundEnd
 final-sound w a = sound-end w a
 

@@ -6,7 +6,7 @@ use Rattle.shapes.specs.Shape.{Block}
 use Rattle.shapes.specs.Lent.{wordsOf}
 use Rattle.hulls.specs.Hull.{none, shapes}
 use Rattle.books.specs.Refused.{BookRefused, BookAccepted}
-use Rattle.book_runs.specs.Walk.{BookRun}
+use Rattle.book_runs.specs.Rounds.{BookRun}
 use Rattle.rules.specs.Rule.{numbersOfAll}
 use Rattle.file_lines.specs.Book.{Book}
 use Rattle.files.specs.Departs.{FileRefused, FileAccepted}

@@ -7,7 +7,7 @@ use lib.ListN.{length, getD}
 use lib.Seq.{ext-getD}
 use Rattle.shapes.specs.All.{All, more}
 use Rattle.shapes.specs.Shape.{Block, Sound, Run, Filling, noBlock}
-use Rattle.hulls.specs.Hull.{Satisfies, None, Taken, Hull, Outcome, none, shapes, Narrows, to-none, to-shapes}
+use Rattle.hulls.specs.Hull.{Satisfies, None, Taken, Hull, Outcome, none, shapes, NarrowsTo, to-none, to-shapes}
 use Rattle.hulls.specs.Book.{Within, end, next}
 use Rattle.hulls.proofs.Order.{within-of, within-size, within-filling}
 use Rattle.hulls.proofs.Fill.{filling-size, filling-at, filling-of}
@@ -22,7 +22,7 @@ one-hull {P} {S} {H} {J} h j =
 pub hull-or-none : {P : List (List ℕ) → Type 0} {S H : List Block} → Hull P S H → None P S → ⊥
 hull-or-none h n = n .never _ (h .some .satisfies)
 
-pub one-outcome : {P : List (List ℕ) → Type 0} {S : List Block} {o p : Outcome} → Narrows P S o → Narrows P S p → o ≡ p
+pub one-outcome : {P : List (List ℕ) → Type 0} {S : List Block} {o p : Outcome} → NarrowsTo P S o → NarrowsTo P S p → o ≡ p
 one-outcome (to-none n) (to-none m) = refl
 one-outcome (to-none n) (to-shapes h) = absurd (hull-or-none h n)
 one-outcome (to-shapes h) (to-none n) = absurd (hull-or-none h n)
@@ -99,11 +99,6 @@ pub same-rule : {P Q : List (List ℕ) → Type 0} {S H : List Block} → ((f : 
 same-rule to from h = same-hull refl
     (λ f s. record { filling = s .filling; rule = to f (s .filling) (s .rule) })
     (λ f s. record { filling = s .filling; rule = from f (s .filling) (s .rule) }) h
-
--- so do rules that ask the same of the same part of the runs
-pub same-part : (Q : List (List ℕ) → Type 0) {φ ψ : List (List ℕ) → List (List ℕ)} {S H : List Block}
-    → ((f : List (List ℕ)) → Filling S f → φ f ≡ ψ f) → Hull (λ f. Q (φ f)) S H → Hull (λ f. Q (ψ f)) S H
-same-part Q e h = same-rule (λ f x q. subst Q (e f x) q) (λ f x q. subst Q (sym (e f x)) q) h
 
 pub same-none : {P Q : List (List ℕ) → Type 0} {S : List Block} → ((f : List (List ℕ)) → Filling S f → Q f → P f) → None P S → None Q S
 same-none from n = fewer-none (λ f s. record { filling = s .filling; rule = from f (s .filling) (s .rule) }) n

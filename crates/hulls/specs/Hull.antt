@@ -55,6 +55,6 @@ pub data Outcome : Type 0 where
   none : Outcome
   shapes : List Block → Outcome
 
-pub data Narrows (P : List (List ℕ) → Type 0) (S : List Block) : Outcome → Type 0 where
-  to-none : None P S → Narrows P S none
-  to-shapes : {H : List Block} → Hull P S H → Narrows P S (shapes H)
+pub data NarrowsTo (P : List (List ℕ) → Type 0) (S : List Block) : Outcome → Type 0 where
+  to-none : None P S → NarrowsTo P S none
+  to-shapes : {H : List Block} → Hull P S H → NarrowsTo P S (shapes H)

@@ -6,8 +6,8 @@ use native.Mathlib.Omega.{arith}
 use lib.ListN.{length, drop, drop-of-length-le}
 use lib.Seq.{drop-cons}
 use borrow.Author.Tests.{eq-eqb, ne-eqb}
-use Rattle.shapes.specs.Shape.{Block}
-use Rattle.sweep_steps.specs.Places.{at, numberOf, offsetOf, noBlock, nth}
+use Rattle.shapes.specs.Shape.{Block, noBlock}
+use Rattle.sweep_steps.specs.Places.{at, numberOf, offsetOf, nth}
 use Rattle.sweep_steps.specs.Steps.{pushLook, pushStops, pushOn, pushLooked, pushing, push, stretchLook, stretchOn, stretchLooked, stretching, stretch}
 use Rattle.sweep_steps.specs.declared.Offset.{Offset}
 use Rattle.sweep_steps.specs.declared.Place.{Place}

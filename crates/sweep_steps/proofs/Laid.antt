@@ -8,9 +8,9 @@ use lib.Dec.{leb}
 use lib.ListN.{length, drop, getD}
 use borrow.Author.Tests.{le-leb, lt-leb}
 use Rattle.bases.specs.Base.{Holds}
-use Rattle.shapes.specs.Shape.{Block}
+use Rattle.shapes.specs.Shape.{Block, noBlock}
 use Rattle.sweep_steps.specs.Share.{pick}
-use Rattle.sweep_steps.specs.Places.{at, numberOf, offsetOf, noBlock}
+use Rattle.sweep_steps.specs.Places.{at, numberOf, offsetOf}
 use Rattle.sweep_steps.specs.declared.Place.{Place}
 
 -- c v is the character behind the first v: each one behind the first p, up to the first e, is of the base b

@@ -7,8 +7,8 @@ use native.Mathlib.Omega.{arith}
 use lib.ListN.{length, drop, getD, length-drop}
 use lib.Seq.{getD-drop}
 use Rattle.bases.proofs.Plain.{lt-or-le}
-use Rattle.shapes.specs.Shape.{Block}
-use Rattle.sweep_steps.specs.Places.{at, numberOf, offsetOf, noBlock}
+use Rattle.shapes.specs.Shape.{Block, noBlock}
+use Rattle.sweep_steps.specs.Places.{at, numberOf, offsetOf}
 use Rattle.sweep_steps.specs.Steps.{stretchLook, stretchOn, stretchLooked, stretching, stretch}
 use Rattle.sweep_steps.specs.declared.Place.{Place}
 use Rattle.sweep_steps.specs.declared.StretchLook.{StretchLook}

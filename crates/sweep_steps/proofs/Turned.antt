@@ -7,8 +7,8 @@ use native.Mathlib.Omega.{arith}
 use lib.ListN.{length, drop, take, getD, length-drop, length-reverse}
 use lib.Seq.{split-at, getD-at, length-take-le}
 use borrow.Author.Tests.{lt-ltb, le-ltb}
-use Rattle.shapes.specs.Shape.{Block}
-use Rattle.sweep_steps.specs.Places.{at, numberOf, offsetOf, noBlock, forward, isStart}
+use Rattle.shapes.specs.Shape.{Block, noBlock}
+use Rattle.sweep_steps.specs.Places.{at, numberOf, offsetOf, forward, isStart}
 use Rattle.sweep_steps.specs.declared.Place.{Place}
 use Rattle.sweep_steps.proofs.Laid.{Spans, Laid, done, next, sum, laid-length, laid-lower, stand, stand-here, stand-ahead, stand-first}
 use Rattle.sweep_steps.proofs.Stretching.{Lands, short-of, past}

@@ -4,7 +4,7 @@ use mathlib.Core.List.{List}
 use Prim.Native.Nat.{ℕ, _+_, _-_}
 use lib.Dec.{eqb, ltb}
 use lib.ListN.{length, getD}
-use Rattle.shapes.specs.Shape.{Block}
+use Rattle.shapes.specs.Shape.{Block, noBlock}
 use Rattle.sweep_steps.specs.Share.{pick}
 use Rattle.sweep_steps.specs.declared.Offset.{Offset}
 use Rattle.sweep_steps.specs.declared.Place.{Place}
@@ -35,10 +35,6 @@ before p q = pick (eqb (numberOf p) (numberOf q)) (ltb (offsetOf p) (offsetOf q)
 -- the later of two places
 unfoldable pub later : Place → Place → Place
 later p q = pick (before p q) q p
-
--- any block, for what stands past the end
-abbrev pub noBlock : Block
-noBlock = record { base = 0; lower = 0; upper = 0 }
 
 -- block number i of a shape, from 1
 abbrev pub nth : List Block → ℕ → Block

@@ -6,8 +6,8 @@ use native.Mathlib.Omega.{arith}
 use lib.ListN.{length, getD, take, drop, set, drop-of-length-le, length-drop, length-reverse, length-set, take-append-drop}
 use lib.Seq.{drop-cons, getD-drop, drop-drop, getD-set-same, getD-set-other, drop-set-lt, take-suc-set, set-at, take-suc, length-take-le}
 use borrow.Author.Tests.{eq-eqb, ne-eqb}
-use Rattle.shapes.specs.Shape.{Block}
-use Rattle.sweep_steps.specs.Places.{at, numberOf, offsetOf, noBlock, nth, later, forward}
+use Rattle.shapes.specs.Shape.{Block, noBlock}
+use Rattle.sweep_steps.specs.Places.{at, numberOf, offsetOf, nth, later, forward}
 use Rattle.sweep_steps.specs.Steps.{push, stretch, Held, stretches, Found, places, cannot, found, pushNext, pushes, numbers}
 use Rattle.sweep_steps.specs.declared.Place.{Place}
 use Rattle.sweep_steps.specs.declared.Pushed.{Pushed}

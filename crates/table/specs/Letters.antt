@@ -3,7 +3,7 @@ use mathlib.Core.List.{List, _++_}
 use Prim.Native.Nat.{ℕ, _^_}
 use lib.ListN.{length}
 use Rattle.shapes.specs.Shape.{Block}
-use Rattle.hulls.specs.Hull.{Pairs, Outcome, shapes, Narrows}
+use Rattle.hulls.specs.Hull.{Pairs, Outcome, shapes, NarrowsTo}
 
 -- the letters, as bases of one character; {a,b,c} is a + b + c
 abbrev pub a : ℕ
@@ -33,8 +33,8 @@ abbrev pub block : ℕ → ℕ → ℕ → Block
 block base lower upper = record { base = base; lower = lower; upper = upper }
 
 -- Under the relation R of two texts, X and Y are narrowed to the outcome o.
-pub record Narrowed (R : List ℕ → List ℕ → Type 0) (X Y : List Block) (o : Outcome) : Type 0 where
-  pub narrows : Narrows (Pairs R (length X)) (X ++ Y) o
+pub record NarrowedTo (R : List ℕ → List ℕ → Type 0) (X Y : List Block) (o : Outcome) : Type 0 where
+  pub narrows : NarrowsTo (Pairs R (length X)) (X ++ Y) o
 
 -- The outcome that is two shapes, of X and of Y.
 abbrev pub both : List Block → List Block → Outcome

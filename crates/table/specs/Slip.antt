@@ -6,7 +6,7 @@ use Rattle.hulls.specs.Hull.{none}
 use Rattle.rests.specs.Walk.{Same}
 use Rattle.sweep_steps.specs.Places.{at}
 use Rattle.sweep_steps.specs.Steps.{places, sweepOf}
-use Rattle.table.specs.Letters.{a, b, block, Narrowed}
+use Rattle.table.specs.Letters.{a, b, block, NarrowedTo}
 
 -- a0..1 b1..1 a0..1 in b0..1 a2..2 b0..1
 abbrev pub slipX : List Block
@@ -18,4 +18,4 @@ slipY = block b 0 1 ∷ (block a 2 2 ∷ (block b 0 1 ∷ []))
 -- There are places, and no common text.
 pub record Slip : Type 0 where
   pub found : sweepOf slipX slipY ≡ places (at 1 0 ∷ (at 3 0 ∷ (at 3 1 ∷ []))) 7
-  pub no-text : Narrowed Same slipX slipY none
+  pub no-text : NarrowedTo Same slipX slipY none

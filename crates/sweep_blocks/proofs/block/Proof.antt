@@ -4,9 +4,9 @@ use Prim.Native.Nat.{_-_}
 use native.Mathlib.Omega.{arith}
 use borrow.Author.Needs.{needs}
 use Rattle.shapes.proofs.Lent.{shape-at}
-use Rattle.sweep_steps.specs.Places.{noBlock}
 use Rattle.sweep_blocks.proofs.block.Statement.{statement}
 use Rattle.sweep_blocks.proofs.block.Tie as tie
+use Rattle.shapes.specs.Shape.{noBlock}
 
 sub-at : tie.Need-sub-at
 sub-at c = search needs

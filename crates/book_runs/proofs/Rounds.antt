@@ -13,8 +13,8 @@ use Rattle.hulls.proofs.Hull.{one-hull, hull-or-none}
 use Rattle.rules.specs.declared.Rule.{Rule}
 use Rattle.rules.specs.Rule.{ruleCount}
 use Rattle.books.specs.Rules.{asks, ruleOf, AllIn}
-use Rattle.book_runs.specs.Walk.{Walk}
-use Rattle.book_runs.specs.Walk.Walk.{stops, keeps, changes, round, rests}
+use Rattle.book_runs.specs.Rounds.{Rounds}
+use Rattle.book_runs.specs.Rounds.Rounds.{stops, keeps, changes, round, rests}
 
 -- ---- one outcome, one count
 
@@ -30,7 +30,7 @@ pub one-kept : (P : ℕ → List (List ℕ) → Type 0) (S : List Block) (k : �
 one-kept P S k c f h e j l = ⊎-elim (λ b. f e j b) (λ b. let at : k ≡ j = omega arith in subst (λ (i : ℕ). Hull (P i) S S) at h) (lt-or-le j k)
 
 module _ {n : ℕ} {P : ℕ → List (List ℕ) → Type 0} where
-  pub walk-one : {S : List Block} {k : ℕ} {c : Bool} {o u : Outcome} {m l : ℕ} → Walk n P S k c o m → Walk n P S k c u l → (o ≡ u) × (m ≡ l)
+  pub walk-one : {S : List Block} {k : ℕ} {c : Bool} {o u : Outcome} {m l : ℕ} → Rounds n P S k c o m → Rounds n P S k c u l → (o ≡ u) × (m ≡ l)
   walk-one (stops a x) (stops b y) = (refl, refl)
   walk-one (stops a x) (keeps b h w) = absurd (hull-or-none h x)
   walk-one (stops a x) (changes b h d w) = absurd (hull-or-none h x)
@@ -44,7 +44,7 @@ module _ {n : ℕ} {P : ℕ → List (List ℕ) → Type 0} where
   walk-one (changes a h d w) (stops b y) = absurd (hull-or-none h y)
   walk-one (changes a h d w) (keeps b g v) = absurd (not-both g h d)
   walk-one {k} {u} {l = suc l} (changes a h d w) (changes b g q v) =
-      let r = walk-one w (subst (λ (S : List Block). Walk n P S (suc k) true u l) (one-hull g h) v) in (r .0, ap suc (r .1))
+      let r = walk-one w (subst (λ (S : List Block). Rounds n P S (suc k) true u l) (one-hull g h) v) in (r .0, ap suc (r .1))
   walk-one (changes a h d w) (round e v) = absurd (omega arith)
   walk-one (changes a h d w) (rests e) = absurd (omega arith)
   walk-one (round e w) (stops b y) = absurd (omega arith)
