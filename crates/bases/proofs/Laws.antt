@@ -146,9 +146,6 @@ least-next t ws l = record { held = next-words 0 t ws (lit< tt) ∙ l .held; lea
         let h = l .least (d - 64) (sym (next-words 0 (d - 64) ws (lit< tt)) ∙ ap (λ (x : ℕ). baseOf (0 ∷ ws) / 2 ^ x % 2) back ∙ e) in omega arith)
         (lt-or-le d 64)
 
-pub least-second : (w v : ℕ) → w ≡ 0 → v < 2 ^ 64 → (v ≡ 0 → ⊥) → Least (baseOf (w ∷ (v ∷ []))) (64 + trailingZeros 64 v) × (trailingZeros 64 v < 64)
-least-second w v z h nz = let l = least-first v [] h nz in (rw z (least-next _ (v ∷ []) (l .0)), l .1)
-
 -- ---- the greatest character
 
 highest-set : (j n : ℕ) → 2 ^ j ≤ n → n < 2 ^ suc j → n / 2 ^ j % 2 ≡ 1
@@ -186,16 +183,6 @@ greatest-next w t ws h g = record { held = next-words w t ws h ∙ g .held; grea
 pub no-words-after : (w : ℕ) → baseOf (w ∷ (0 ∷ [])) ≡ w
 unfolding baseOf
 no-words-after w = omega arith
-
-pub greatest-first : (w v : ℕ) → v ≡ 0 → w < 2 ^ 64 → (w ≡ 0 → ⊥) → Greatest (baseOf (w ∷ (v ∷ []))) (63 - leadingZeros 64 w) × (leadingZeros 64 w < 64)
-greatest-first w v z h nz = rw (z, no-words-after w) (greatest-word w h nz)
-
-pub greatest-second : (w v : ℕ) → w < 2 ^ 64 → v < 2 ^ 64 → (v ≡ 0 → ⊥) → Greatest (baseOf (w ∷ (v ∷ []))) (127 - leadingZeros 64 v) × (leadingZeros 64 v < 64)
-greatest-second w v hw h nz =
-    let g = greatest-word v h nz in
-    let top : Greatest (baseOf (v ∷ [])) (63 - leadingZeros 64 v) = rw (one-word v) (g .0) in
-    let place : 64 + (63 - leadingZeros 64 v) ≡ 127 - leadingZeros 64 v = let b = g .1 in omega arith in
-    (rw place at (greatest-next w _ (v ∷ []) hw top), g .1)
 
 -- ---- the least and the greatest character, as numbers
 

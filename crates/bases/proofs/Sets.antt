@@ -1,15 +1,14 @@
--- Bases as sets: equal by their characters; what two share and what either holds, by `&` and `|` of their words. Assumes nothing.
-use mathlib.Core.Path.{_≡_, refl, sym, ap, ap₂, _∙_, subst}
-use mathlib.Core.List.{[], _∷_}
+-- Bases as sets: equal by their characters; what two share and what either holds, and whether they meet. Assumes nothing.
+use mathlib.Core.Path.{_≡_, refl, sym, ap, ap₂, _∙_}
 use mathlib.Core.Logic.{_⊎_, inl, inr, ⊎-elim}
-use Prim.Native.Nat.{ℕ, zero, suc, _+_, _*_, _/_, _%_, _^_, _<_}
+use Prim.Native.Nat.{ℕ, zero, suc, _/_, _%_, _^_, _<_}
 use native.Mathlib.Nat.{mod-lt, div-one}
 use native.Mathlib.Omega.{arith}
 use lib.Arith.{bin-ind}
-use lib.Bits.{bitAnd, bitOr, and-shr, and-mod, or-shr, or-mod, and-block, or-block, and-zero-l, or-zero-l}
+use lib.Bits.{bitAnd, bitOr, and-shr, and-mod, or-shr, or-mod, and-zero-l, or-zero-l}
 use lib.Dec.{lit<}
-use Rattle.bases.specs.Base.{baseOf, Holds, Empty, Meets}
-use Rattle.bases.proofs.Laws.{halved, empty-zero, none-in-zero, empty-words, words-empty}
+use Rattle.bases.specs.Base.{Holds, Empty, Meets}
+use Rattle.bases.proofs.Laws.{halved, empty-zero, none-in-zero}
 
 -- ---- two bases that hold the same characters are the same number
 
@@ -85,24 +84,6 @@ pub in-second : (a b c : ℕ) → Holds b c → Holds (bitOr a b) c
 unfolding Holds
 in-second a b c h = bits-of bitOr or-shr or-mod a b c ∙ ap (λ (x : ℕ). bitOr (a / 2 ^ c % 2) x) h ∙ or-second _ (bit-cases (a / 2 ^ c))
 
--- ---- the same, word by word
-
-pub and-words : (w v x y : ℕ) → w < 2 ^ 64 → x < 2 ^ 64 → baseOf (bitAnd w x ∷ (bitAnd v y ∷ [])) ≡ bitAnd (baseOf (w ∷ (v ∷ []))) (baseOf (x ∷ (y ∷ [])))
-unfolding baseOf
-and-words w v x y hw hx =
-    sym (and-block 64 (0 * 2 ^ 64 + v) (0 * 2 ^ 64 + y) w x hw hx ∙ ap (λ (z : ℕ). z * 2 ^ 64 + bitAnd w x) (ap₂ bitAnd (plain v) (plain y) ∙ sym (plain (bitAnd v y))))
-  where
-    plain : (n : ℕ) → 0 * 2 ^ 64 + n ≡ n
-    plain n = omega arith
-
-pub or-words : (w v x y : ℕ) → w < 2 ^ 64 → x < 2 ^ 64 → baseOf (bitOr w x ∷ (bitOr v y ∷ [])) ≡ bitOr (baseOf (w ∷ (v ∷ []))) (baseOf (x ∷ (y ∷ [])))
-unfolding baseOf
-or-words w v x y hw hx =
-    sym (or-block 64 (0 * 2 ^ 64 + v) (0 * 2 ^ 64 + y) w x hw hx ∙ ap (λ (z : ℕ). z * 2 ^ 64 + bitOr w x) (ap₂ bitOr (plain v) (plain y) ∙ sym (plain (bitOr v y))))
-  where
-    plain : (n : ℕ) → 0 * 2 ^ 64 + n ≡ n
-    plain n = omega arith
-
 -- ---- whether two bases meet
 
 -- a base that is not the number 0 holds something
@@ -121,10 +102,3 @@ meets-of a b nz = let h = some-held (bitAnd a b) nz in let p = shared a b (h .0)
 pub meets-not : (a b : ℕ) → bitAnd a b ≡ 0 → Meets a b → ⊥
 unfolding Empty
 meets-not a b z m = none-in-zero (m .shared) (rw z at (both a b (m .shared) (m .first) (m .second)))
-
-module _ (w v x y : ℕ) (hw : w < 2 ^ 64) (hx : x < 2 ^ 64) where
-  pub words-meet : ((bitAnd w x ≡ 0) × (bitAnd v y ≡ 0) → ⊥) → Meets (baseOf (w ∷ (v ∷ []))) (baseOf (x ∷ (y ∷ [])))
-  words-meet n = meets-of _ _ (λ z. n (empty-words _ _ (subst Empty (sym (and-words w v x y hw hx ∙ z)) none-in-zero)))
-
-  pub words-do-not : bitAnd w x ≡ 0 → bitAnd v y ≡ 0 → Meets (baseOf (w ∷ (v ∷ []))) (baseOf (x ∷ (y ∷ []))) → ⊥
-  words-do-not p q = meets-not _ _ (sym (and-words w v x y hw hx) ∙ empty-zero _ (words-empty _ _ p q))

@@ -25,7 +25,7 @@ use Rattle.row_paths.proofs.Forth as forth
 use Rattle.row_paths.proofs.Chars.{joined-gives, given-more, given-none, moved-more, moved-none, seen-from}
 use Rattle.row_paths.proofs.Shapes.{free-within, held-within}
 use Rattle.equal_forth.specs.Forth.{Pass}
-use Rattle.equal_forth.proofs.Pass.{block-at, slot-rows-at, zones-at}
+use Rattle.row_paths.proofs.Lent.{block-at, slot-rows-at, zones-at}
 use Rattle.equal_back.specs.declared.Gathered.{Gathered}
 use Rattle.equal_back.specs.Back.{GatheredAt, Whenever, BlockBack, Fresh, EndBack, GivesTo, PassFrom, SideTold}
 

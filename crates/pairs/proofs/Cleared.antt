@@ -28,8 +28,3 @@ cleared-more n w h =
     ∙ sym (append-assoc (replicate n 0) (0 ∷ []) (drop (suc n) w))
     ∙ ap (λ (l : List ℕ). l ++ drop (suc n) w) (replicate-append-replicate n 1 0)
     ∙ ap (λ (k : ℕ). replicate (n + 1) 0 ++ drop k w) (sym (add-one n))
-
--- what was past the table is still there
-pub cleared-rest : (n : ℕ) (w v : List ℕ) → drop n v ≡ drop n w → cleared n v ≡ cleared n w
-unfolding cleared
-cleared-rest n w v e = ap (λ (l : List ℕ). replicate n 0 ++ l) e

@@ -212,6 +212,3 @@ module _ {X Y : ℕ → Block} {U W : ℕ} {Z E : ℕ → ℕ} {m p : ℕ} {b : 
 
 pub used-none : {X Y : ℕ → Block} {U W i n : ℕ} → n ≡ 0 → Exactly n (Used X Y U W i i)
 used-none e = none-exactly e (λ j v. let l = v .from in let h = v .before in omega arith)
-
-pub gathered-next : {X Y : ℕ → Block} {U W i e row used quit own-quit own-moved n : ℕ} → n ≡ 0 → Gathered X Y U W i e row used quit own-quit own-moved → Gathered X Y U W i i row n quit own-quit own-moved
-gathered-next z g = record { row-is = g .row-is; used-is = used-none z; quit-is = g .quit-is; own-quit-is = g .own-quit-is; own-moved-is = g .own-moved-is }

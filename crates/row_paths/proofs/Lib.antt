@@ -6,3 +6,4 @@ pub mod Back
 pub mod Told
 pub mod Chars
 pub mod Shapes
+pub mod Lent

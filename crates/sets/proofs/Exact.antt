@@ -92,15 +92,6 @@ pub down-exactly : (s : ℕ) {n : ℕ} → n ≡ s / 2 → Exactly n (λ e. Hold
 unfolding Holds
 down-exactly s d = exactly-at d (record { so = λ e h. rw add-one (halved s e ∙ h); mark = λ e h. sym (halved s e) ∙ (rw add-one at h) })
 
-pub one-up : {s : ℕ} (e : ℕ) → Holds s e → OneUp s (e + 1)
-one-up e h = record { number = e; held = h; next = refl }
-
-pub one-down : {s : ℕ} (e : ℕ) → OneUp s (e + 1) → Holds s e
-one-down {s} e u = let n = u .next in subst (Holds s) (let z : u .number ≡ e = omega arith in z) (u .held)
-
-pub none-up : {s : ℕ} → OneUp s 0 → ⊥
-none-up u = let n = u .next in omega arith
-
 double-exactly : (s : ℕ) → Exactly (s * 2) (OneUp s)
 unfolding Holds
 double-exactly s = record { so = so; mark = λ e u. rw (u .next, add-one) (twice (u .number) ∙ u .held) }

@@ -11,7 +11,7 @@ use Rattle.bases.specs.Base.{baseOf, Holds, Empty, Least, Greatest}
 use Rattle.bases.proofs.Laws.{first-word, next-words, empty-zero, none-in-zero, greatest-next, words-bound}
 use Rattle.sets.specs.declared.Set.{Set}
 use Rattle.sets.specs.Set.{setOf, Exactly, Proper}
-use Rattle.sets.proofs.Exact.{exactly-as, none-exactly, held-under}
+use Rattle.sets.proofs.Exact.{exactly-as, none-exactly}
 use Rattle.sets.proofs.Words.{no-word, exactly-more, bound-more, Bitwise, each-more, down-more, down-last, up-more}
 use Rattle.sets.proofs.Words.{empty-more, more-empty, least-here, least-later, greatest-here}
 
@@ -22,15 +22,9 @@ unfolding setOf
 set-bound s f =
     bound-more 192 _ _ (f .a) (bound-more 128 _ _ (f .b) (bound-more 64 _ _ (f .c) (bound-more 0 _ _ (f .d) (rw no-word (lit< tt)))))
 
-pub set-under : (s : Set) → Proper s → (e : ℕ) → Holds (setOf s) e → e < 256
-set-under s f = held-under 256 (set-bound s f)
-
 -- a set of two words
 pub two-words-bound : (low high : ℕ) {n : ℕ} → low < 2 ^ 64 → high < 2 ^ 64 → n ≡ baseOf (low ∷ (high ∷ [])) → n < 2 ^ 128
 two-words-bound low high l h d = rw d (words-bound low high l h)
-
-pub two-words-under : (low high : ℕ) {n : ℕ} → low < 2 ^ 64 → high < 2 ^ 64 → n ≡ baseOf (low ∷ (high ∷ [])) → (e : ℕ) → Holds n e → e < 128
-two-words-under low high l h d = held-under 128 (two-words-bound low high l h d)
 
 -- a set of numbers below 128 is that of its first two words
 pub first-two-words : (s : Set) → Proper s → ((e : ℕ) → Holds (setOf s) e → e < 128) → setOf s ≡ baseOf (s .a ∷ (s .b ∷ []))

@@ -8,7 +8,7 @@ use Rattle.shapes.specs.Shape.{Block}
 use Rattle.row_lay.proofs.Laid.{upper-within}
 use Rattle.rows.specs.Row.{rowIn}
 use Rattle.rows.specs.Steps.{InTurn}
-use Rattle.equal_forth.proofs.Pass.{in-turn-of}
+use Rattle.row_paths.proofs.Lent.{in-turn-of}
 use Rattle.equal_back.specs.Back.{PassFrom}
 use Rattle.equal_back.proofs.Pass.{pass-end, pass-more, pass-place, own-told, others-told}
 use borrow.Author.Needs.{needs}

@@ -9,7 +9,8 @@ use Rattle.row_lay.proofs.Laid.{upper-within, total-all}
 use Rattle.equal_forth.specs.Forth.{PassTo}
 use Rattle.rows.specs.Row.{rowIn}
 use Rattle.rows.specs.Steps.{InTurn}
-use Rattle.equal_forth.proofs.Pass.{mine-at, in-turn-of, zones-at, pass-none, pass-more, pass-all}
+use Rattle.row_paths.proofs.Lent.{mine-at, in-turn-of, zones-at}
+use Rattle.equal_forth.proofs.Pass.{pass-none, pass-more, pass-all}
 use borrow.Author.Needs.{needs}
 use Rattle.equal_forth.proofs.forth.Statement.{statement}
 use Rattle.equal_forth.proofs.forth.Tie as tie
