@@ -4,13 +4,15 @@
 
 static int holds(const uint64_t *b, uint8_t c) { return c < 128 && (b[c / 64] >> (c % 64) & 1); }
 
-// Shape checking as document 01 asks, but for the length: 0, 2 with the block, or 3.
+// Shape checking as document 01 and document 02, order 1, ask, but for the length: 0; 2, 10 or 11 with the block; or 3.
 static uint64_t check_blocks(const uint64_t *s, size_t n, uint64_t *block) {
     uint64_t total = 0;
     for (size_t i = 0; i < n; i += 4) {
         int empty = (s[i] | s[i + 1]) == 0;
         *block = i / 4 + 1;
-        if (s[i + 2] > s[i + 3] || s[i + 3] > 250 || empty != (s[i + 3] == 0)) return 2;
+        if (s[i + 2] > s[i + 3]) return 2;
+        if (s[i + 3] > 250) return 10;
+        if (empty != (s[i + 3] == 0)) return 11;
     }
     *block = 0;
     for (size_t i = 0; i < n; i += 4) total += s[i + 3];
@@ -327,7 +329,7 @@ uint64_t plain_before(const uint64_t *x, size_t nx, const uint64_t *y, size_t ny
     return order(1, x, nx, y, ny, t, w, ox, a, oy, b);
 }
 
-// The refusals of a book: 6, then 2 and 3 text by text, 7 rule by rule, 4.
+// The refusals of a book: 6, then those of the blocks text by text, 7 rule by rule, 4.
 struct refusal plain_check_book(const uint64_t *counts, size_t texts, const uint64_t *blocks, size_t nb, const uint64_t *rules, size_t nr, size_t w) {
     struct refusal wrong = {6, 0, 0};
     uint64_t sum = 0, block;

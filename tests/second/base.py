@@ -4,8 +4,8 @@ from itertools import product
 
 from bounds import bound, earlier, fits
 from making import (
-    INPUT_ROOM, Dice, block, hexes, large_shape, many_blocks, numbers_read, random_filling, random_text,
-    small_shape, unsound_blocks, written,
+    INPUT_ROOM, ONE_EACH, TWO_BAD, Dice, block, hexes, hold_to_ways, large_shape, many_blocks, numbers_read,
+    random_filling, random_text, small_shape, unsound_blocks, written,
 )
 from shapes import FEW_FILLINGS, Refused, agree, all_texts, fillings, shape_of
 
@@ -164,7 +164,13 @@ def limit_cases(cases):
 
 
 def refusal_cases(cases):
+    hold_to_ways()
     good = block(b"AB", 0, 3)
+    for shape in TWO_BAD:
+        cases.all(shape)
+        cases.all(good + shape)
+        cases.check(shape[:4] + good * 30 + shape[4:])
+        cases.check(good * 30 + shape)
     for bad in unsound_blocks():
         cases.all(bad)
         cases.check(bad + good + good)
@@ -176,17 +182,18 @@ def refusal_cases(cases):
         for second in range(place + 1, 33, 7):
             between = second - place - 1
             cases.check(good * (place - 1) + bad + good * between + block(b"", 0, 1) + good * (32 - second))
-    # The first number decides: 1 before 2 before 3 before 5.
+    # The first number decides: 1, then that of the first bad block, then 3, then 5.
     heavy = block(b"A", 0, 200)
-    cases.all(bad + good * 32)
-    cases.all(bad + [0])
+    for wrong in ONE_EACH:
+        cases.all(wrong + good * 32)
+        cases.all(wrong + [0])
+        cases.all(wrong + heavy + heavy)
+        cases.all(heavy + heavy + wrong)
+        cases.all(heavy + wrong + heavy)
     cases.all(good * 33 + [2**64 - 1])
-    cases.all(bad + heavy + heavy)
-    cases.all(heavy + heavy + bad)
-    cases.all(heavy + bad + heavy)
     cases.all(heavy + heavy)
     for length in (0, 1, 249):
-        for words in ([], [1], good * 33, bad, good + bad, bad + heavy * 2, heavy * 2, heavy * 2 + bad, good):
+        for words in ([], [1], good * 33, *ONE_EACH, good + bad, bad + heavy * 2, heavy * 2, heavy * 2 + bad, good):
             cases.bounds(words, length)
     # Two uppers whose sum is 0 at 64 bits, and more of that kind.
     half = block(b"A", 0, 2**63)

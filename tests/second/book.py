@@ -3,8 +3,8 @@
 from itertools import permutations, product
 
 from making import (
-    Dice, block, carved, counted, hexes, hold_lines_to_room, large_shape, lists_read, many_blocks, numbers_read,
-    random_filling, small_blocks, unsound_blocks, words_of, written,
+    ONE_EACH, TWO_BAD, Dice, block, carved, counted, hexes, hold_lines_to_room, large_shape, lists_read, many_blocks,
+    numbers_read, random_filling, small_blocks, unsound_blocks, words_of, written,
 )
 from narrow import AT_MOST, BEFORE, EQUAL, HOLDS, KINDS, LONGEST_WORK, narrowed, work_shown
 from shapes import MOST_BLOCKS, WORK_WANTED, Refused, agree, all_texts, fillings, shape_of
@@ -288,7 +288,7 @@ def count_cases(cases):
 
 
 def shape_cases(cases):
-    """Unsound blocks (2) and totals over 250 (3), text by text, before rules and work."""
+    """Bad blocks (2, 10, 11) and totals over 250 (3), text by text, before rules and work."""
     good = block([0], 0, 3)
     bad = block([0], 2, 1)
     heavy = block([0], 0, 200)
@@ -303,6 +303,14 @@ def shape_cases(cases):
         cases.book(texts, [rule])
         texts[7] = bad
         cases.book(texts, [wrong], 0)
+    # The first bad text and its first bad block decide, whatever is wrong with those behind.
+    for shape in TWO_BAD:
+        cases.book([good, shape], [rule])
+        cases.book([good + shape[:4], shape[4:], good], [wrong], 0)
+    for unsound in ONE_EACH:
+        cases.book([good, heavy * 2 + unsound], [rule])
+        cases.book([heavy * 2, unsound], [rule])
+        cases.book([good, unsound, heavy * 2], [wrong], 0)
     for texts in (
         [heavy * 2, bad],
         [bad, heavy * 2],

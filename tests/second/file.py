@@ -8,7 +8,7 @@ import re
 from pathlib import Path
 
 from book import MOST_RULES, MOST_TEXTS, book_of, hold_to_laws, random_book, run, shape_total, shuffled, wide_book
-from making import Dice, block, many_blocks, unsound_blocks, words_of, written
+from making import ONE_EACH, TWO_BAD, Dice, block, many_blocks, unsound_blocks, words_of, written
 from narrow import AT_MOST, BEFORE, EQUAL, KINDS
 from shapes import MOST_BLOCKS, Refused, agree
 
@@ -402,13 +402,23 @@ def count_cases(cases):
 
 
 def shape_cases(cases):
-    """Unsound blocks (2) and totals over 250 (3), text by text, before the rules."""
+    """Bad blocks (2, 10, 11) and totals over 250 (3), text by text, before the rules."""
     for number, unsound in enumerate(unsound_blocks()):
         if max(unsound[2:]) <= MOST_NUMBER:
             cases.book([GOOD, GOOD + unsound], [(EQUAL, 1, 2)] if number % 2 else [(3, 0, 0)])
+    # The first bad text and its first bad block decide, whatever is wrong with those behind.
+    for shape in TWO_BAD:
+        cases.book([GOOD, shape], [(EQUAL, 1, 2)])
+        cases.book([GOOD + shape[:4], shape[4:]], [(3, 0, 0)])
+    for unsound in ONE_EACH:
+        cases.book([GOOD, HEAVY * 2 + unsound], [(EQUAL, 1, 2)])
+        cases.book([HEAVY * 2, unsound], [(EQUAL, 1, 2)])
+        cases.book([GOOD, unsound, HEAVY * 2], [(3, 0, 0)])
     for count in (251, 256, 9_999, 10_000, 65_534, MOST_NUMBER):
         cases.book([GOOD, GOOD, block(b"a", 0, count) + GOOD], [])
+        cases.book([block(b"", 0, count)], [])
         cases.book([block(b"a", count, 3)], [])
+        cases.book([block(b"", count, count - 1)], [])
     for text in range(1, MOST_TEXTS + 1):
         for place in (1, text):
             texts = [GOOD] * MOST_TEXTS

@@ -2,7 +2,7 @@
 
 import re
 
-from shapes import MOST_BLOCKS, MOST_CHARACTERS, fillings, shape_of
+from shapes import MOST_BLOCKS, MOST_CHARACTERS, Refused, agree, fillings, shape_of
 
 # Every program reads all of its input at once.
 INPUT_ROOM = 400_000
@@ -88,19 +88,53 @@ def many_blocks(count, total):
     return [word for number, upper in enumerate(uppers) for word in block(b"A" if number % 2 == 0 else b"B", 0, upper)]
 
 
+# Blocks that are wrong in one, in two and in three ways at once, with the number that document 02, order 1, gives each.
+WAYS = (
+    # Lower above upper alone; with upper above 250; with base against upper; all three.
+    (2, block(b"A", 2, 1)),
+    (2, block(b"A", 251, 250)),
+    (2, block(b"", 1, 0)),
+    (2, block(b"A", 252, 251)),
+    (2, block(b"A", 2**64 - 1, 2**64 - 2)),
+    (2, block(b"A", 1, 0)),
+    (2, block(b"", 2, 1)),
+    (2, block(b"", 251, 250)),
+    (2, block(b"", 252, 251)),
+    (2, block(b"", 2**64 - 1, 2**64 - 2)),
+    # Upper above 250 alone; with an empty base.
+    (10, block(b"A", 0, 251)),
+    (10, block(b"A", 250, 251)),
+    (10, block(b"A", 251, 251)),
+    (10, block(b"A", 2**64 - 1, 2**64 - 1)),
+    (10, block(b"", 0, 251)),
+    (10, block(b"", 251, 251)),
+    (10, block(b"", 0, 2**64 - 1)),
+    # Base against upper alone.
+    (11, block(b"", 0, 1)),
+    (11, block(b"", 1, 1)),
+    (11, block(b"", 250, 250)),
+    (11, block(b"A", 0, 0)),
+)
+
+
+def hold_to_ways():
+    """Each block of the table is refused with the number that stands beside it."""
+    for number, words in WAYS:
+        try:
+            refusal = shape_of(words)
+        except Refused as refused:
+            refusal = refused.args
+        agree("document 02, order 1", words, refusal, (number, 1, 1))
+
+
+# One that is wrong in one way for each number, and shapes in which two blocks are wrong: the first decides.
+ONE_EACH = (block(b"A", 2, 1), block(b"A", 0, 251), block(b"", 0, 1))
+TWO_BAD = tuple(one + other for one in ONE_EACH for other in ONE_EACH if one != other)
+
+
 def unsound_blocks():
-    """One block for each way of being unsound, the numbers also far above the limits."""
-    yield block(b"A", 2, 1)
-    yield block(b"A", 251, 250)
-    yield block(b"A", 0, 251)
-    yield block(b"A", 251, 251)
-    yield block(b"A", 252, 251)
-    yield block(b"", 0, 1)
-    yield block(b"", 1, 1)
-    yield block(b"", 1, 0)
-    yield block(b"", 0, 251)
-    yield block(b"A", 0, 0)
-    yield block(b"A", 1, 0)
+    """Blocks that are unsound in every way, the numbers also far above the limits."""
+    yield from (words for _, words in WAYS)
     # Bases of one character, and bases whose two numbers have 0 as sum, difference or common bits.
     for base in ((0,), (63,), (64,), (127,), (63, 127), (0, 64), (0, 65), range(64), range(128)):
         yield block(base, 0, 0)
@@ -113,11 +147,11 @@ def unsound_blocks():
         yield block(b"A", far + 3, far + 5)
     for far in (2**63 - 1, 2**64 - 1):
         yield block(b"A", 0, far)
-        yield block(b"A", far, far)
         yield block(b"A", far, 1)
-        yield block(b"", 0, far)
         yield block(b"", far, 0)
         yield block(b"", far, far)
+    yield block(b"A", 2**63 - 1, 2**63 - 1)
+    yield block(b"", 0, 2**63 - 1)
 
 
 # By chance.
@@ -276,6 +310,10 @@ def refused_pairs():
         for second in ([], bad, heavy * 2):
             yield first, second
     yield good, good
+    for shape in TWO_BAD:
+        yield shape, good
+        yield good, good + shape
+        yield shape[:4], shape[4:]
     for unsound in unsound_blocks():
         yield unsound, good
         yield good, good + unsound

@@ -1,4 +1,4 @@
-"""What document 01 says of shapes, fillings and refusals."""
+"""What document 01 says of shapes, fillings and refusals, and document 02, order 1, of a block that is refused."""
 
 from functools import lru_cache
 from itertools import product
@@ -37,6 +37,14 @@ def sound(block):
     return (len(block.base) == 0) == (block.upper == 0)
 
 
+# What can be wrong with a block, by the number of its refusal, in the order in which they are tried.
+WRONG = {
+    2: lambda block: block.lower > block.upper,
+    10: lambda block: block.upper > MOST_CHARACTERS,
+    11: lambda block: (not block.base and block.upper > 0) or (block.base and block.upper == 0),
+}
+
+
 def shape_of(words, number=1):
     """The blocks of the shape lent as `words`, the shape's number being `number`."""
     blocks, rest = divmod(len(words), 4)
@@ -46,8 +54,10 @@ def shape_of(words, number=1):
     for at in range(0, len(words), 4):
         low, high, lower, upper = words[at : at + 4]
         shape.append(Block(base_of(low, high), lower, upper))
-        if not sound(shape[-1]):
-            raise Refused(2, number, len(shape))
+        due = [refusal for refusal, wrong in WRONG.items() if wrong(shape[-1])]
+        agree("soundness", shape[-1], sound(shape[-1]), not due)
+        if due:
+            raise Refused(due[0], number, len(shape))
     if sum(block.upper for block in shape) > MOST_CHARACTERS:
         raise Refused(3, number, 0)
     return tuple(shape)

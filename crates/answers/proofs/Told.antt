@@ -1,27 +1,24 @@
 -- What a refusal tells determines it. Assumes nothing.
 use mathlib.Core.Path.{_≡_, refl, sym, ap, _∙_}
-use Prim.Native.Nat.{ℕ, zero, suc}
+use mathlib.Core.List.{[], _∷_}
+use Prim.Native.Nat.{ℕ}
+use lib.ListN.{getD}
 use Rattle.answers.specs.declared.Refusal.{Refusal}
-use Rattle.answers.specs.declared.Refusal.the-variants.{Length, Block, Total, Work, Output, Counts, Rule, Line, Size}
+use Rattle.answers.specs.declared.Refusal.the-variants.{Length, Crossed, TooLarge, Disagree, Total, Work, Output, Counts, Rule, Line, Size}
 use Rattle.answers.specs.Told.{Told, told}
 
--- the refusal that tells n, t and p
+-- the refusal that tells n, t and p: the n-th, from 1; what stands before the first is never looked at
 of : ℕ → ℕ → ℕ → Refusal
-of zero t p = Size
-of (suc zero) t p = Length t
-of (suc (suc zero)) t p = Block t p
-of (suc (suc (suc zero))) t p = Total t
-of (suc (suc (suc (suc zero)))) t p = Work
-of (suc (suc (suc (suc (suc zero))))) t p = Output t
-of (suc (suc (suc (suc (suc (suc zero)))))) t p = Counts
-of (suc (suc (suc (suc (suc (suc (suc zero))))))) t p = Rule p
-of (suc (suc (suc (suc (suc (suc (suc (suc zero)))))))) t p = Line p
-of (suc (suc (suc (suc (suc (suc (suc (suc (suc n))))))))) t p = Size
+of n t p =
+    getD (Size ∷ (Length t ∷ (Crossed t p ∷ (Total t ∷ (Work ∷ (Output t ∷ (Counts ∷ (Rule p ∷ (Line p ∷ (Size ∷ (TooLarge t p ∷ (Disagree t p ∷ [])))))))))))) n
+    Size
 
 back : (r : Refusal) → of (told r .number) (told r .text) (told r .place) ≡ r
 unfolding of
 back (Length s) = refl
-back (Block s b) = refl
+back (Crossed s b) = refl
+back (TooLarge s b) = refl
+back (Disagree s b) = refl
 back (Total s) = refl
 back Work = refl
 back (Output o) = refl

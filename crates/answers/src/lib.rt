@@ -5,7 +5,9 @@ ghost use Rattle.answers.specs.Told.{told};
 // Why a call was refused, with the shape's, block's, output's, rule's or line's number, each from 1.
 pub enum Refusal {
     Length(u64),
-    Block(u64, u64),
+    Crossed(u64, u64),
+    TooLarge(u64, u64),
+    Disagree(u64, u64),
     Total(u64),
     Work,
     Output(u64),
@@ -60,7 +62,9 @@ pub fn number(r: Refusal) -> u64
 {
     match r {
         Refusal::Length(_) => 1,
-        Refusal::Block(_, _) => 2,
+        Refusal::Crossed(_, _) => 2,
+        Refusal::TooLarge(_, _) => 10,
+        Refusal::Disagree(_, _) => 11,
         Refusal::Total(_) => 3,
         Refusal::Work => 4,
         Refusal::Output(_) => 5,
@@ -76,7 +80,9 @@ pub fn text(r: Refusal) -> u64
 {
     match r {
         Refusal::Length(shape) => shape,
-        Refusal::Block(shape, _) => shape,
+        Refusal::Crossed(shape, _) => shape,
+        Refusal::TooLarge(shape, _) => shape,
+        Refusal::Disagree(shape, _) => shape,
         Refusal::Total(shape) => shape,
         Refusal::Work => 0,
         Refusal::Output(output) => output,
@@ -92,7 +98,9 @@ pub fn place(r: Refusal) -> u64
 {
     match r {
         Refusal::Length(_) => 0,
-        Refusal::Block(_, block) => block,
+        Refusal::Crossed(_, block) => block,
+        Refusal::TooLarge(_, block) => block,
+        Refusal::Disagree(_, block) => block,
         Refusal::Total(_) => 0,
         Refusal::Work => 0,
         Refusal::Output(_) => 0,

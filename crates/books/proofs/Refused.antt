@@ -1,23 +1,17 @@
 -- One book has one refusal, and none if it is accepted. Assumes nothing.
-use mathlib.Core.Path.{_≡_, sym, ap, _∙_, subst}
+use mathlib.Core.Path.{_≡_, sym, ap, _∙_}
 use mathlib.Core.List.{List}
 use Prim.Native.Nat.{ℕ, _+_}
 use native.Mathlib.Omega.{arith}
 use Rattle.answers.specs.Told.{Told, tell}
 use Rattle.shapes.specs.Shape.{Block}
-use Rattle.shapes.specs.Lent.{BlocksRefused}
-use Rattle.shapes.proofs.FirstBad.{first-bad-one, first-bad-none}
+use Rattle.shapes.proofs.FirstBad.{first-bad-one, first-bad-none, first-refused-one}
 use Rattle.shapes.proofs.Refused.{blocks-one}
-use Rattle.books.specs.Counts.{shapeIn}
 use Rattle.books.specs.Refused.{SoundTexts, RightRules, FirstText, FirstWrong, BookRefused, BookAccepted}
 use Rattle.books.specs.Refused.BookRefused.{wrong-counts, wrong-text, wrong-rule, short-work}
 
 first-not : {counts : List ℕ} {S : List Block} {k : ℕ} {t : Told} → SoundTexts counts S → FirstText counts S k t → ⊥
 first-not s f = first-bad-none (λ i l. s .each (i + 1) (record { from-one = omega arith; within = omega arith })) (f .first)
-
-first-one : {counts : List ℕ} {S : List Block} {k j : ℕ} {t u : Told} → FirstText counts S k t → FirstText counts S j u → t ≡ u
-first-one {counts} {S} {u = u} f g =
-    blocks-one (f .refused) (subst (λ (i : ℕ). BlocksRefused i (shapeIn counts S i) u) (first-bad-one (g .first) (f .first)) (g .refused))
 
 wrong-not : {counts rules : List ℕ} {i : ℕ} → RightRules counts rules → FirstWrong counts rules i → ⊥
 wrong-not r w = first-bad-none (r .each) w
@@ -28,7 +22,7 @@ book-one (wrong-counts a p) (wrong-text c k f) = absurd (a c)
 book-one (wrong-counts a p) (wrong-rule c s i w q) = absurd (a c)
 book-one (wrong-counts a p) (short-work c s r l q) = absurd (a c)
 book-one (wrong-text c k f) (wrong-counts b q) = absurd (b c)
-book-one (wrong-text c k f) (wrong-text d j g) = first-one f g
+book-one (wrong-text c k f) (wrong-text d j g) = first-refused-one (λ i. blocks-one) f g
 book-one (wrong-text c k f) (wrong-rule d s i w q) = absurd (first-not s f)
 book-one (wrong-text c k f) (short-work d s r l q) = absurd (first-not s f)
 book-one (wrong-rule c s i w p) (wrong-counts b q) = absurd (b c)

@@ -1,5 +1,5 @@
 -- What the texts that a check has passed say of all. Assumes nothing.
-use mathlib.Core.Path.{_≡_, subst}
+use mathlib.Core.Path.{_≡_, sym, subst}
 use mathlib.Core.List.{List}
 use mathlib.Core.Logic.{⊎-elim}
 use Prim.Native.Nat.{ℕ, _+_, _-_, _<_}
@@ -27,7 +27,7 @@ one-more-text counts S k f s i n l = ⊎-elim (λ h. f i n h) (λ h. let e : k �
 -- the next is refused: it is the first
 pub first-text : (counts : List ℕ) (S : List Block) (k : ℕ) {t : Told} → Names counts k → SoundBefore counts S k → BlocksRefused k (shapeIn counts S k) t
     → FirstText counts S k t
-first-text counts S k n f r =
+first-text counts S k {t} n f r =
     let one = n .from-one in
     let last = n .within in
     let back : k - 1 + 1 ≡ k = omega arith in
@@ -39,7 +39,7 @@ first-text counts S k n f r =
         good = λ i l. f (i + 1) (record { from-one = omega arith; within = omega arith }) (omega arith);
         bad = λ s. let sound = subst (SoundText counts S) back s in blocks-not r (sound .sound) (sound .short);
       };
-      refused = r;
+      refused = subst (λ (i : ℕ). BlocksRefused i (shapeIn counts S i) t) (sym back) r;
     }
 
 pub all-texts : (counts : List ℕ) (S : List Block) (k : ℕ) → length counts < k → SoundBefore counts S k → SoundTexts counts S

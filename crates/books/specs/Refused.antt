@@ -1,4 +1,4 @@
--- Document 01, "Numbers given back": for a book 6; then 2, 3 text by text; 7 rule by rule; 4.
+-- Document 01, "Numbers given back": for a book 6; then those of the texts' blocks, text by text; 7 rule by rule; 4.
 use mathlib.Core.Path.{_≡_}
 use mathlib.Core.List.{List}
 use Prim.Native.Nat.{ℕ, _+_, _≤_, _<_}
@@ -7,7 +7,7 @@ use Rattle.answers.specs.Told.{Told, tell, told}
 use Rattle.answers.specs.declared.Checked.{Checked}
 use Rattle.answers.specs.declared.Checked.the-variants.{Sound as is-sound, Refused}
 use Rattle.rules.specs.Rule.{ruleAt, ruleCount}
-use Rattle.shapes.specs.FirstBad.{FirstBad}
+use Rattle.shapes.specs.FirstBad.{FirstBad, FirstRefused}
 use Rattle.shapes.specs.Shape.{Block}
 use Rattle.shapes.specs.Lent.{shapeOf, BlocksRefused}
 use Rattle.books.specs.Counts.{RightCounts, shapeIn, SoundText}
@@ -20,10 +20,9 @@ pub record SoundTexts (counts : List ℕ) (S : List Block) : Type 0 where
 pub record RightRules (counts rules : List ℕ) : Type 0 where
   pub each : (j : ℕ) → j < ruleCount rules → RightRule counts (ruleAt rules j)
 
--- Text k is the first that 2 or 3 refuses, and this is what it is told: the text's number, and a block within its own shape.
-pub record FirstText (counts : List ℕ) (S : List Block) (k : ℕ) (t : Told) : Type 0 where
-  pub first : FirstBad (length counts) (λ i. SoundText counts S (i + 1)) k
-  pub refused : BlocksRefused k (shapeIn counts S k) t
+-- Text k is the first that has no sound shape, and this is what it is told: the text's number, and a block within its own shape.
+abbrev pub FirstText : List ℕ → List Block → ℕ → Told → Type 0
+FirstText counts S k t = FirstRefused (length counts) (λ i. SoundText counts S (i + 1)) (λ i. BlocksRefused (i + 1) (shapeIn counts S (i + 1))) k t
 
 -- Rule number i, from 1, is the first that is wrong.
 abbrev pub FirstWrong : List ℕ → List ℕ → ℕ → Type 0

@@ -97,7 +97,7 @@ pub fn place_of(counts: &[u64], k: usize) -> Place
     Place { from, to }
 }
 
-// Refusals 2 and 3 of text k, from 1.
+// The refusals of the blocks of text k, from 1.
 fn check_text(counts: &[u64], blocks: &[u64], k: usize) -> Checked
     requires { ⌜ All RightCount (now counts) ⌝ }
     requires { ⌜ length (now counts) ≤ 8 ⌝ }
@@ -111,7 +111,7 @@ fn check_text(counts: &[u64], blocks: &[u64], k: usize) -> Checked
     shapes::check_blocks(&blocks[from..to], k as u64)
 }
 
-// Refusals 2 and 3, text by text.
+// The same, text by text.
 fn check_texts(counts: &[u64], blocks: &[u64]) -> Checked
     requires { ⌜ All RightCount (now counts) ⌝ }
     requires { ⌜ length (now counts) ≤ 8 ⌝ }
@@ -179,7 +179,7 @@ fn right_rules(counts: &[u64], rules: &[u64]) -> usize
     n
 }
 
-// Whether a book is accepted, for a work buffer of `room` bytes: refusals 6, 2, 3, 7 and 4, in this order.
+// Whether a book is accepted, for a work buffer of `room` bytes: refusals 6, those of the texts, 7 and 4, in this order.
 pub fn check_book(counts: &[u64], blocks: &[u64], rules: &[u64], room: usize) -> Checked
     ensures { λ r. ⌜ BookChecked (now (counts .entry)) (now (blocks .entry)) (now (rules .entry)) room r ⌝ }
 {

@@ -1,4 +1,4 @@
--- Document 01, "Numbers given back": the refusals of a pair, in their order: 1, 2, 3 of the first shape; 1, 2, 3 of the second; 4; 5.
+-- Document 01, "Numbers given back": the refusals of a pair, in their order: those of the first shape; those of the second; 4; 5.
 use mathlib.Core.Path.{_≡_}
 use mathlib.Core.List.{List}
 use Prim.Native.Nat.{ℕ, _≤_, _<_}
@@ -13,7 +13,7 @@ pub record PairAccepted (xs ys : List ℕ) : Type 0 where
   pub first : Accepted xs
   pub second : Accepted ys
 
--- 1, 2, 3 of the first shape, then of the second
+-- those of the first shape, then of the second
 pub data PairRefused (xs ys : List ℕ) (t : Told) : Type 0 where
   first : ShapeRefused 1 xs t → PairRefused xs ys t
   second : Accepted xs → ShapeRefused 2 ys t → PairRefused xs ys t

@@ -6,7 +6,7 @@ ghost use lib.ListN.{length};
 ghost use Rattle.pairs.specs.Narrow.{Cleared};
 ghost use Rattle.pairs.specs.Pair.{PairAccepted, PairChecked, NarrowChecked};
 
-// 1, 2, 3 of the first shape, then of the second.
+// Those of the first shape, then of the second.
 pub fn check_pair(x: &[u64], y: &[u64]) -> Checked
     ensures { λ r. ⌜ PairChecked (now (x .entry)) (now (y .entry)) r ⌝ }
 {

@@ -1,7 +1,8 @@
 -- Which numbers are which block: the blocks of a lent shape by index. Assumes nothing.
 use mathlib.Core.Path.{_≡_, refl, sym, ap, _∙_, subst}
 use mathlib.Core.List.{List, [], _∷_}
-use Prim.Native.Nat.{ℕ, zero, suc, _+_, _-_, _*_, _/_, _^_, _≤_, _<_}
+use Prim.Native.Nat.{ℕ, zero, suc, _+_, _*_, _/_, _^_, _≤_, _<_}
+use Rattle.answers.specs.Told.{Told}
 use Rattle.bases.proofs.Laws.{words-bound}
 use native.Mathlib.Numerals.{add-one}
 use native.Mathlib.Omega.{arith}
@@ -9,10 +10,11 @@ use lib.ListN.{length, getD, drop, drop-of-length-le}
 use lib.Seq.{drop-cons}
 use Rattle.shapes.specs.All.{All}
 use Rattle.shapes.specs.All.All.{none, more}
-use Rattle.shapes.specs.FirstBad.{FirstBad}
 use Rattle.shapes.specs.Shape.{Block, Sound, Small, noBlock, total}
-use Rattle.shapes.specs.Lent.{blockOf, blockAt, shapeOf, FirstUnsound}
+use Rattle.shapes.specs.Wrong.{BlockRefused}
+use Rattle.shapes.specs.Lent.{blockOf, blockAt, shapeOf, FirstBlock}
 use Rattle.shapes.proofs.All.{all-at, all-of}
+use Rattle.shapes.proofs.Wrong.{block-not}
 
 pub shape-length : (xs : List ℕ) → length (shapeOf xs) ≡ length xs / 4
 unfolding shapeOf
@@ -57,16 +59,21 @@ pub all-sound : (xs : List ℕ) → ((i : ℕ) → i < length xs / 4 → Sound (
 all-sound xs h = all-of (shapeOf xs) noBlock
     (λ i l. let e = shape-length xs in let b : i < length xs / 4 = omega arith in subst Sound (sym (shape-at xs i noBlock b)) (h i b))
 
-pub first-unsound : (xs : List ℕ) {i : ℕ} → FirstBad (length xs / 4) (λ j. Sound (blockAt xs j)) i → FirstUnsound (shapeOf xs) i
-first-unsound xs f =
+-- where those before it are sound, a block that is refused is the first
+pub first-block : (n : ℕ) (xs : List ℕ) (i : ℕ) {t : Told} → i < length xs / 4 → ((j : ℕ) → j < i → Sound (blockAt xs j)) → BlockRefused n (i + 1) (blockAt xs i) t
+    → FirstBlock n (shapeOf xs) (i + 1) t
+first-block n xs i {t} w g r =
     let e = shape-length xs in
-    let w = f .within in
+    let here = shape-at xs i noBlock w in
     record {
-      before = f .before;
-      place = f .place;
-      within = omega arith;
-      good = λ j h. subst Sound (sym (shape-at xs j noBlock (omega arith))) (f .good j h);
-      bad = λ s. f .bad (subst Sound (shape-at xs (f .before) noBlock w) s);
+      first = record {
+        before = i;
+        place = refl;
+        within = omega arith;
+        good = λ j h. subst Sound (sym (shape-at xs j noBlock (omega arith))) (g j h);
+        bad = λ s. block-not r (subst Sound here s);
+      };
+      refused = subst (λ (b : Block). BlockRefused n (i + 1) b t) (sym here) r;
     }
 
 -- ---- the uppers still ahead

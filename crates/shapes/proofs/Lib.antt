@@ -2,6 +2,7 @@
 pub mod All
 pub mod FirstBad
 pub mod Lent
+pub mod Wrong
 pub mod Refused
 pub mod Fits
 pub mod Numbers

@@ -1,4 +1,4 @@
--- Document 01, "Shapes and fillings" and "Numbers given back": which shape some lent 64-bit numbers are, and why they are refused.
+-- Document 01, "Shapes and fillings" and "Numbers given back": which shape some lent 64-bit numbers are, and why they are refused (document 02, order 1).
 use mathlib.Core.Path.{_≡_}
 use mathlib.Core.List.{List, [], _∷_}
 use Prim.Native.Nat.{ℕ, _+_, _*_, _/_, _%_, _^_, _≤_, _<_}
@@ -10,8 +10,9 @@ use Rattle.bases.specs.Base.{baseOf}
 use Rattle.sets.specs.Set.{setOf}
 use Rattle.shapes.specs.All.{All}
 use Rattle.shapes.specs.declared.Block.{Block as Carried}
-use Rattle.shapes.specs.FirstBad.{FirstBad}
+use Rattle.shapes.specs.FirstBad.{FirstRefused}
 use Rattle.shapes.specs.Shape.{Block, Sound, noBlock, total, blockCount, blockSize}
+use Rattle.shapes.specs.Wrong.{BlockRefused}
 
 -- Lent numbers are 64-bit numbers.
 abbrev pub Numbers : List ℕ → Type 0
@@ -54,16 +55,16 @@ pub record RightLength (xs : List ℕ) : Type 0 where
   pub some : 1 ≤ blockCount xs
   pub few : blockCount xs ≤ 32
 
--- Block number i, from 1, is the first that is not sound.
-abbrev pub FirstUnsound : List Block → ℕ → Type 0
-FirstUnsound s i = FirstBad (length s) (λ j. Sound (getD s j noBlock)) i
+-- Block number i, from 1, of shape number n is the first that is not sound, and this is what is told of it.
+abbrev pub FirstBlock : ℕ → List Block → ℕ → Told → Type 0
+FirstBlock n s i t = FirstRefused (length s) (λ j. Sound (getD s j noBlock)) (λ j. BlockRefused n (j + 1) (getD s j noBlock)) i t
 
--- Refusals 2 and 3, of the blocks of shape number n.
+-- Refusals 2, 10 and 11 at the first bad block, then 3, of the blocks of shape number n.
 pub data BlocksRefused (n : ℕ) (s : List Block) (t : Told) : Type 0 where
-  unsound : (i : ℕ) → FirstUnsound s i → t ≡ tell 2 n i → BlocksRefused n s t
+  wrong-block : (i : ℕ) → FirstBlock n s i t → BlocksRefused n s t
   too-long : All Sound s → 250 < total s → t ≡ tell 3 n 0 → BlocksRefused n s t
 
--- Refusals 1, 2 and 3, of the numbers lent for shape number n.
+-- Refusal 1, then those of the blocks, of the numbers lent for shape number n.
 pub data ShapeRefused (n : ℕ) (xs : List ℕ) (t : Told) : Type 0 where
   wrong-length : (RightLength xs → ⊥) → t ≡ tell 1 n 0 → ShapeRefused n xs t
   wrong-blocks : RightLength xs → BlocksRefused n (shapeOf xs) t → ShapeRefused n xs t

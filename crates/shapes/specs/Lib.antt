@@ -2,4 +2,6 @@
 pub mod All
 pub mod FirstBad
 pub mod Shape
+pub mod Wrong
 pub mod Lent
+pub mod Code

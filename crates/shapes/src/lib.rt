@@ -5,9 +5,10 @@ use sets::Set;
 ghost use mathlib.Core.Path.{_≡_};
 ghost use Prim.Native.Nat.{_/_, _≤_, _<_};
 ghost use Rattle.bases.specs.Tells.{Tells};
-ghost use Rattle.shapes.specs.Shape.{Sound, Small, total, blockCount};
+ghost use Rattle.shapes.specs.Shape.{Small, total, blockCount};
+ghost use Rattle.shapes.specs.Wrong.{Disagree, BlockChecked};
 ghost use Rattle.shapes.specs.Lent.{meant, blockAt, shapeOf, Put, BlocksChecked, ShapeChecked};
-ghost use Rattle.shapes.specs.FirstBad.{UpTo};
+ghost use Rattle.shapes.specs.Code.{EachChecked};
 
 // The numbers of a block.
 pub const SIZE: usize = 4;
@@ -46,36 +47,48 @@ pub fn put_block(out: &mut [u64], i: usize, b: Block)
     out[at + 3] = b.upper;
 }
 
-// Whether a block is sound. The numbers may be any.
-pub fn is_sound(b: Block) -> bool
-    ensures { λ r. ⌜ Tells r (Sound (meant b)) ⌝ }
+// Whether base and upper disagree.
+fn disagree(b: Block) -> bool
+    ensures { λ r. ⌜ Tells r (Disagree (meant b)) ⌝ }
 {
-    if b.upper < b.lower {
-        return false;
-    }
-    if 250 < b.upper {
-        return false;
-    }
     if sets::is_empty(b.base) {
-        return b.upper == 0;
+        return 0 < b.upper;
     }
-    b.upper != 0
+    b.upper == 0
 }
 
-// How many blocks are sound before the first that is not.
-fn sound_blocks(shape: &[u64]) -> usize
-    ensures { λ r. ⌜ UpTo (blockCount (now (shape .entry))) (λ i. Sound (blockAt (now (shape .entry)) i)) r ⌝ }
+// Refusals 2, 10 and 11 of block number `place`. The numbers may be any.
+fn check_block(b: Block, number: u64, place: u64) -> Checked
+    ensures { λ r. ⌜ BlockChecked number place (meant b) r ⌝ }
+{
+    if b.upper < b.lower {
+        return Checked::Refused(Refusal::Crossed(number, place));
+    }
+    if 250 < b.upper {
+        return Checked::Refused(Refusal::TooLarge(number, place));
+    }
+    if disagree(b) {
+        return Checked::Refused(Refusal::Disagree(number, place));
+    }
+    Checked::Sound
+}
+
+// The refusal of the first block that has one.
+fn check_each(shape: &[u64], number: u64) -> Checked
+    ensures { λ r. ⌜ EachChecked number (shapeOf (now (shape .entry))) r ⌝ }
 {
     let n = shape.len() / SIZE;
-    let mut good = 0;
-    while good < n {
-        let b = block_at(shape, good);
-        if !is_sound(b) {
-            return good;
+    let mut i = 0;
+    while i < n {
+        let block = block_at(shape, i);
+        match check_block(block, number, i as u64 + 1) {
+            Checked::Refused(r) => return Checked::Refused(r),
+            Checked::Sound => {
+                i += 1;
+            }
         }
-        good += 1;
     }
-    n
+    Checked::Sound
 }
 
 // The uppers added, where the sum is known to be small.
@@ -94,22 +107,23 @@ pub fn total_upper(shape: &[u64]) -> u64
     sum
 }
 
-// Refusals 2 and 3 of the blocks of shape number `number`.
+// Refusals 2, 10, 11 and 3 of the blocks of shape number `number`.
 pub fn check_blocks(shape: &[u64], number: u64) -> Checked
     requires { ⌜ blockCount (now shape) ≤ 32 ⌝ }
     ensures { λ r. ⌜ BlocksChecked number (shapeOf (now (shape .entry))) r ⌝ }
 {
-    let good = sound_blocks(shape);
-    if good < shape.len() / SIZE {
-        return Checked::Refused(Refusal::Block(number, good as u64 + 1));
+    match check_each(shape, number) {
+        Checked::Refused(r) => Checked::Refused(r),
+        Checked::Sound => {
+            if 250 < total_upper(shape) {
+                return Checked::Refused(Refusal::Total(number));
+            }
+            Checked::Sound
+        }
     }
-    if 250 < total_upper(shape) {
-        return Checked::Refused(Refusal::Total(number));
-    }
-    Checked::Sound
 }
 
-// Refusals 1, 2 and 3 of the numbers lent for shape number `number`.
+// Refusal 1, then those of the blocks, of the numbers lent for shape number `number`.
 pub fn check_lent(shape: &[u64], number: u64) -> Checked
     ensures { λ r. ⌜ ShapeChecked number (now (shape .entry)) r ⌝ }
 {
