@@ -10,12 +10,14 @@ uint64_t wedgeotter_least(const uint64_t *shape, size_t n, uint8_t *out, size_t 
 uint64_t wedgeotter_sweep(const uint64_t *x, size_t n, const uint64_t *y, size_t m, uint64_t *out, size_t k);
 fitting wedgeotter_fits;
 narrowing wedgeotter_equal, wedgeotter_at_most, wedgeotter_before;
+showing wedgeotter_common;
 running wedgeotter_book;
 filing wedgeotter_file;
 
 // The proved call, plain C with byte tables, plain C with rows of bits.
 #define SIDES 3
 static fitting *const fits_of[SIDES] = {wedgeotter_fits, plain_fits, rows_fits};
+static showing *const common_of[SIDES] = {wedgeotter_common, plain_common, rows_common};
 static running *const book_of[SIDES] = {wedgeotter_book, plain_book, rows_book};
 static filing *const file_of[SIDES] = {wedgeotter_file, plain_file, rows_file};
 
@@ -149,17 +151,33 @@ static size_t make_tight(uint64_t *s, const uint64_t *x, size_t n) {
     return 4 * blocks;
 }
 
+// What a random shape stands beside: the next one; a tight one; itself, with fixed counts; the next one, with large bases.
+enum pairing { NEXT_ONE, TIGHT, FIXED, LARGE };
+
+// Half of all codes, in the mean, in each base.
+static void enlarge(uint64_t *s, size_t n) {
+    for (size_t j = 0; j < n; j += 4) s[j] = rnd(~0ull), s[j + 1] = rnd(~0ull);
+}
+
+static void make_pairs(enum pairing with, size_t blocks, uint64_t most) {
+    for (int i = 0; i < SHAPES; i++) {
+        length[i] = make(shape[i], blocks, most);
+        if (with == LARGE) enlarge(shape[i], length[i]);
+        for (size_t j = 0; with == FIXED && j < length[i]; j += 4) shape[i][j + 2] = shape[i][j + 3];
+    }
+    for (int i = 0; i < SHAPES; i++) {
+        int beside = with == FIXED ? i : NEXT;
+        memcpy(other[i], shape[beside], sizeof other[i]);
+        other_length[i] = with == TIGHT ? make_tight(other[i], shape[i], length[i]) : length[beside];
+    }
+}
+
 #define PAIR shape[i], length[i], other[i], other_length[i], work, sizeof work
 
-// Narrowing of each shape against the next one, or a tight one, under each relation on the same pairs, in the mean over them; after the ratios to plain C that to our
-// equality, and how many pairs are not none.
-static void narrows(const char *size, size_t blocks, uint64_t most, int tight) {
+// Narrowing of the pairs under each relation, in the mean over them; after the ratios to plain C that to our equality, and how many pairs are not none.
+static void narrows(const char *size, size_t blocks, uint64_t most, enum pairing with) {
     uint64_t a[128], b[128], c[128], d[128], some[KINDS] = {0};
-    for (int i = 0; i < SHAPES; i++) length[i] = make(shape[i], blocks, most);
-    for (int i = 0; i < SHAPES; i++) {
-        memcpy(other[i], shape[NEXT], sizeof other[i]);
-        other_length[i] = tight ? make_tight(other[i], shape[i], length[i]) : length[NEXT];
-    }
+    make_pairs(with, blocks, most);
     for (int kind = 0; kind < KINDS; kind++)
         for (int i = 0; i < SHAPES; i++) {
             memset(a, 0, sizeof a), memset(b, 0, sizeof b);
@@ -183,6 +201,38 @@ static void narrows(const char *size, size_t blocks, uint64_t most, int tight) {
         show(kind_of[kind], size, SIDES, means[kind]);
         printf(" %8.2f  %d of %d narrow\n", means[kind][0] / means[0][0], (int)some[kind], SHAPES);
     }
+}
+
+#define BLANK 255 // no character, so that bytes past a text show
+
+// The earliest common text of the pairs, in the mean over them; after the ratios to plain C that to our equality, and how many pairs meet.
+static void commons(const char *size, size_t blocks, uint64_t most, enum pairing with) {
+    uint8_t ours[256], plain[256];
+    uint64_t a[128], b[128];
+    int some = 0;
+    make_pairs(with, blocks, most);
+    for (int i = 0; i < SHAPES; i++) {
+        memset(ours, BLANK, sizeof ours);
+        uint64_t n = wedgeotter_common(PAIR, ours, sizeof ours), meets = wedgeotter_equal(PAIR, a, 128, b, 128);
+        same(meets == (n <= 250), "whether there is a common text");
+        for (size_t k = meets ? n : 0; k < sizeof ours; k++) same(ours[k] == BLANK, "past the common text");
+        for (int side = 1; side < SIDES; side++) {
+            memset(plain, BLANK, sizeof plain);
+            same(n == common_of[side](PAIR, plain, sizeof plain) && memcmp(ours, plain, sizeof ours) == 0, "common text");
+        }
+        some += meets;
+    }
+    static double best[SIDES][SHAPES], equal[SHAPES];
+    double means[SIDES];
+    memset(best, 0, sizeof best), memset(equal, 0, sizeof equal);
+    TURNS(2) {
+        for (int k = 0; k < SHAPES; k++)
+            for (int side = 0; side < SIDES; side++) TIME(best[side][k], k, 1, common_of[side](PAIR, ours, sizeof ours));
+        for (int k = 0; k < SHAPES; k++) TIME(equal[k], k, 1, wedgeotter_equal(PAIR, a, 128, b, 128));
+    }
+    for (int side = 0; side < SIDES; side++) means[side] = mean(best[side]);
+    show("common", size, SIDES, means);
+    printf(" %8.2f  %d of %d meet\n", means[0] / mean(equal), some, SHAPES);
 }
 
 #define LETTERS 16
@@ -291,17 +341,25 @@ static void books(const char *size, size_t blocks, uint64_t most) {
 
 int main(void) {
     puts("Times per call, the least of several turns, in the mean over the inputs: ours is the proved call, bytes plain C with byte tables, rows plain C with rows of bits.");
-    puts("After each plain C the ratio of ours to it; for narrowing then the ratio of ours to our equality on the same pairs. Least text and sweep have one plain C.");
+    puts("After each plain C the ratio of ours to it; for narrowing and common texts then that to our equality on the same pairs. Least text and sweep have one plain C.");
     printf("%-37s %12s %12s %6s %12s %6s %8s\n", "", "ours", "bytes", "ratio", "rows", "ratio", "to equal");
     bounds("8 blocks, 40 characters", 8, 40);
     bounds("32 blocks, 250 characters", 32, 250);
     sweeps("8 blocks", 8, 40);
     sweeps("32 blocks", 32, 250);
-    narrows("8 blocks, 40 characters", 8, 40, 0);
-    narrows("32 blocks, 250 characters", 32, 250, 0);
-    narrows("8 blocks, 40, tight", 8, 40, 1);
-    narrows("32 blocks, 250, tight", 32, 250, 1);
+    narrows("8 blocks, 40 characters", 8, 40, NEXT_ONE);
+    narrows("32 blocks, 250 characters", 32, 250, NEXT_ONE);
+    narrows("8 blocks, 40, tight", 8, 40, TIGHT);
+    narrows("32 blocks, 250, tight", 32, 250, TIGHT);
     books("8 blocks, 40 characters", 8, 40);
     books("32 blocks, 250 characters", 32, 250);
+    commons("8 blocks, 40 characters", 8, 40, NEXT_ONE);
+    commons("32 blocks, 250 characters", 32, 250, NEXT_ONE);
+    commons("8 blocks, 40, tight", 8, 40, TIGHT);
+    commons("32 blocks, 250, tight", 32, 250, TIGHT);
+    commons("8 blocks, 250, fixed", 8, 250, FIXED);
+    commons("32 blocks, 250, fixed", 32, 250, FIXED);
+    commons("8 blocks, 40, large bases", 8, 40, LARGE);
+    commons("32 blocks, 250, large bases", 32, 250, LARGE);
     return 0;
 }

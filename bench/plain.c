@@ -195,10 +195,8 @@ static void side(const uint64_t *x, size_t nx, const struct slot *ys, size_t m, 
     }
 }
 
-uint64_t plain_equal(const uint64_t *x, size_t nx, const uint64_t *y, size_t ny, uint8_t *t, size_t w, uint64_t *ox, size_t a, uint64_t *oy, size_t b) {
-    if (!plain_check(x, nx) || !plain_check(y, ny) || w < 63001 || a < nx || b < ny) return 1000;
-    static struct slot xs[251], ys[251];
-    size_t n = lay(x, nx, xs), m = lay(y, ny, ys);
+// 1 in the table where one text leads both shapes to their ends.
+static inline void from_ends(const struct slot *xs, size_t n, const struct slot *ys, size_t m, uint8_t *t) {
     for (size_t i = n + 1; i-- > 0;) {
         struct slot own = xs[i];
         for (size_t j = m + 1; j-- > 0;) {
@@ -209,6 +207,13 @@ uint64_t plain_equal(const uint64_t *x, size_t nx, const uint64_t *y, size_t ny,
             t[i * 251 + j] = v;
         }
     }
+}
+
+uint64_t plain_equal(const uint64_t *x, size_t nx, const uint64_t *y, size_t ny, uint8_t *t, size_t w, uint64_t *ox, size_t a, uint64_t *oy, size_t b) {
+    if (!plain_check(x, nx) || !plain_check(y, ny) || w < 63001 || a < nx || b < ny) return 1000;
+    static struct slot xs[251], ys[251];
+    size_t n = lay(x, nx, xs), m = lay(y, ny, ys);
+    from_ends(xs, n, ys, m, t);
     uint64_t some = t[0];
     if (some) {
         t[0] |= 2;
@@ -226,6 +231,54 @@ uint64_t plain_equal(const uint64_t *x, size_t nx, const uint64_t *y, size_t ny,
     }
     memset(t, 0, 63001);
     return some;
+}
+
+// A set of positions, a byte to each, with the ends of the runs that may end in it.
+static void stop_runs(const struct slot *s, size_t n, uint8_t *set) {
+    for (size_t p = 0; p < n; p++)
+        if (set[p] && s[p].lower == 0) set[p + s[p].upper] = 1;
+}
+
+// The positions that one character more leads to.
+static void read_on(const struct slot *s, size_t n, int c, uint8_t *set) {
+    for (size_t p = n; p-- > 0;) set[p + 1] = set[p] && ((c < 64 ? s[p].low >> c : s[p].high >> (c - 64)) & 1);
+    set[0] = 0;
+    stop_runs(s, n, set);
+}
+
+// The least character with which a text can go on to both ends from these positions.
+static int least_next(const struct slot *xs, size_t n, const struct slot *ys, size_t m, const uint8_t *t, const uint8_t *own, const uint8_t *other) {
+    int least = 128;
+    for (size_t i = 0; i < n; i++) {
+        if (!own[i]) continue;
+        for (size_t j = 0; j < m; j++) {
+            if (!other[j] || !t[(i + 1) * 251 + j + 1]) continue;
+            uint64_t low = xs[i].low & ys[j].low, high = xs[i].high & ys[j].high;
+            int c = low ? __builtin_ctzll(low) : high ? 64 + __builtin_ctzll(high) : 128;
+            if (c < least) least = c;
+        }
+    }
+    return least;
+}
+
+// The earliest common text: the table first, then character by character the positions that the text leads to in either shape.
+uint64_t plain_common(const uint64_t *x, size_t nx, const uint64_t *y, size_t ny, uint8_t *t, size_t w, uint8_t *out, size_t k) {
+    if (!plain_check(x, nx) || !plain_check(y, ny) || w < 63001 || k < 250) return 1000;
+    static struct slot xs[251], ys[251];
+    uint8_t own[251] = {1}, other[251] = {1};
+    size_t n = lay(x, nx, xs), m = lay(y, ny, ys), at = 0;
+    from_ends(xs, n, ys, m, t);
+    int some = t[0];
+    stop_runs(xs, n, own);
+    stop_runs(ys, m, other);
+    while (some && !(own[n] && other[m])) {
+        int c = least_next(xs, n, ys, m, t, own, other);
+        out[at++] = c;
+        read_on(xs, n, c, own);
+        read_on(ys, m, c, other);
+    }
+    memset(t, 0, 63001);
+    return some ? at : 2000;
 }
 
 // A fixed text of m characters as a guide: at each of its places the character that stays with it, those that part from it downwards or (up) upwards,

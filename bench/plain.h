@@ -5,6 +5,7 @@
 
 typedef uint64_t fitting(const uint64_t *s, size_t n, const uint8_t *t, size_t k);
 typedef uint64_t narrowing(const uint64_t *x, size_t nx, const uint64_t *y, size_t ny, uint8_t *t, size_t w, uint64_t *ox, size_t a, uint64_t *oy, size_t b);
+typedef uint64_t showing(const uint64_t *x, size_t nx, const uint64_t *y, size_t ny, uint8_t *t, size_t w, uint8_t *out, size_t k);
 typedef uint64_t running(const uint64_t *counts, size_t texts, uint64_t *blocks, size_t nb, const uint64_t *rules, size_t nr, uint8_t *t, size_t w);
 typedef uint64_t filing(const uint8_t *file, size_t n, uint8_t *report, size_t k);
 
@@ -16,6 +17,7 @@ uint64_t plain_least(const uint64_t *s, size_t n, uint8_t *out, size_t k);
 uint64_t plain_sweep(const uint64_t *x, size_t nx, const uint64_t *y, size_t ny, uint64_t *out, size_t k);
 fitting plain_fits, rows_fits;
 narrowing plain_equal, plain_at_most, plain_before, rows_equal, rows_at_most, rows_before;
+showing plain_common, rows_common; // the text's length, 1000 for a refusal, 2000 for none
 running plain_book, rows_book;
 filing plain_file, rows_file;
 

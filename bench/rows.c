@@ -13,6 +13,8 @@ static inline struct row both(struct row r, struct row s) { return (struct row){
 
 static inline struct row either(struct row r, struct row s) { return (struct row){r.a | s.a, r.b | s.b, r.c | s.c, r.d | s.d}; }
 
+static inline struct row without(struct row r, struct row s) { return (struct row){r.a & ~s.a, r.b & ~s.b, r.c & ~s.c, r.d & ~s.d}; }
+
 static inline struct row up(struct row r) { return (struct row){r.a << 1, r.b << 1 | r.a >> 63, r.c << 1 | r.b >> 63, r.d << 1 | r.c >> 63}; }
 
 static inline struct row down(struct row r) { return (struct row){r.a >> 1 | r.b << 63, r.b >> 1 | r.c << 63, r.c >> 1 | r.d << 63, r.d >> 1}; }
@@ -35,6 +37,14 @@ static inline size_t first(struct row r) {
     if (r.b) return 64 + __builtin_ctzll(r.b);
     if (r.c) return 128 + __builtin_ctzll(r.c);
     return 192 + __builtin_ctzll(r.d);
+}
+
+// A row without its first number.
+static inline struct row but_first(struct row r) {
+    if (r.a) return (struct row){r.a & (r.a - 1), r.b, r.c, r.d};
+    if (r.b) return (struct row){0, r.b & (r.b - 1), r.c, r.d};
+    if (r.c) return (struct row){0, 0, r.c & (r.c - 1), r.d};
+    return (struct row){0, 0, 0, r.d & (r.d - 1)};
 }
 
 static inline size_t last(struct row r) {
@@ -74,18 +84,20 @@ uint64_t rows_fits(const uint64_t *s, size_t n, const uint8_t *t, size_t k) {
     return after.a & 1;
 }
 
-// A shape laid out by position: of each block its positions, those where its run may end early (its zone), and the position past it.
+// A shape laid out by position: of each block its positions, those where its run may end early (its zone), and the position past it; all zones in one.
 struct laid {
     size_t blocks, total;
-    struct row slots[32], zones[32], ends[32];
+    struct row slots[32], zones[32], ends[32], free;
 };
 
 static void lay(const uint64_t *s, size_t n, struct laid *to) {
     size_t p = 0;
+    to->free = none;
     for (size_t j = 0; j < n / 4; j++) {
         size_t e = p + s[4 * j + 3];
         to->slots[j] = between(p, e);
         to->zones[j] = between(p + s[4 * j + 2], e);
+        to->free = either(to->free, to->zones[j]);
         to->ends[j] = single(e);
         p = e;
     }
@@ -211,6 +223,116 @@ static uint64_t narrow_equal(const uint64_t *x, size_t nx, const uint64_t *y, si
     return 1;
 }
 
+// The pass from the ends that keeps its rows: for each position of X the row of the positions of Y from which one text leads to both ends. Answers whether one does
+// from the starts.
+static int from_ends(const uint64_t *x, size_t nx, const uint64_t *y, const struct laid *laid, struct row *mines, struct row *rows) {
+    size_t p = 0;
+    for (size_t i = 0; i < nx; i += 4) p += x[i + 3];
+    struct row quit = none, r = backward(laid, single(laid->total), &quit);
+    rows[p] = r;
+    for (size_t i = nx / 4; i-- > 0;) {
+        struct row mine = matching(x + 4 * i, y, laid), stop = r;
+        mines[i] = mine;
+        for (uint64_t o = x[4 * i + 3]; o-- > 0;) {
+            r = both(down(r), mine);
+            if (o >= x[4 * i + 2]) r = either(r, stop);
+            r = backward(laid, r, &quit);
+            rows[--p] = r;
+        }
+    }
+    return meet(r, single(0));
+}
+
+// One of two shapes while a common text is read: the positions that the text leads to, and those where its last character may stand.
+struct side {
+    const uint64_t *shape;
+    struct laid laid;
+    struct row row, takes;
+};
+
+static void start(struct side *s, const uint64_t *shape, size_t n) {
+    s->shape = shape;
+    lay(shape, n, &s->laid);
+    s->row = forward(&s->laid, single(0));
+}
+
+// One character more; where it may stand is known if it is the same again.
+static inline void read_on(struct side *s, int again, size_t c) {
+    uint64_t base[2] = {c < 64 ? 1ull << c : 0, c < 64 ? 0 : 1ull << (c - 64)};
+    if (!again) s->takes = matching(base, s->shape, &s->laid);
+    s->row = up(both(s->row, s->takes));
+    if (meet(s->row, s->laid.free)) s->row = forward(&s->laid, s->row);
+}
+
+// A base, and the least character that two share; 128 if there is none.
+struct base {
+    uint64_t low, high;
+};
+
+static inline size_t least_shared(const uint64_t *b, struct base s) {
+    uint64_t low = b[0] & s.low, high = b[1] & s.high;
+    return low ? __builtin_ctzll(low) : high ? 64 + __builtin_ctzll(high) : 128;
+}
+
+// The bases of Y at some of its positions, joined.
+static inline struct base joined(const struct side *y, struct row here) {
+    struct base s = {0, 0};
+    for (size_t j = 0; j < y->laid.blocks; j++) {
+        if (!meet(here, y->laid.slots[j])) continue;
+        s.low |= y->shape[4 * j];
+        s.high |= y->shape[4 * j + 1];
+    }
+    return s;
+}
+
+// What is found of the next character: the least so far, and the positions of X but for those seen to lead nowhere.
+struct found {
+    size_t code;
+    struct row kept;
+};
+
+// Block i of X, position by position, until no character that it has and that is near, at a position of Y that the text leads to, would come sooner. What stands
+// beside several positions is joined once.
+static inline struct found weigh_block(size_t i, const struct side *x, const struct side *y, struct base near, const struct row *mines, const struct row *rows, struct found f) {
+    struct row left = both(x->row, x->laid.slots[i]), open = both(y->row, mines[i]), seen = none;
+    if (!any(left)) return f;
+    const uint64_t *b = x->shape + 4 * i;
+    size_t least = least_shared(b, near);
+    for (; f.code > least && any(left); left = but_first(left)) {
+        size_t p = first(left);
+        struct row here = both(down(rows[p + 1]), open), new = without(here, seen);
+        if (!any(here)) f.kept = without(f.kept, single(p));
+        if (!any(new)) continue;
+        size_t c = least_shared(b, joined(y, new));
+        if (c < f.code) f.code = c;
+        seen = either(seen, new);
+    }
+    return f;
+}
+
+// The earliest common text: from the positions that it leads to so far, the least character from which both ends are still reached.
+static uint64_t earliest(const uint64_t *x, size_t nx, const uint64_t *y, size_t ny, uint8_t *out) {
+    struct side own, other;
+    struct row mines[32], rows[251];
+    size_t at = 0;
+    start(&own, x, nx);
+    start(&other, y, ny);
+    if (!from_ends(x, nx, y, &other.laid, mines, rows)) return 2000;
+    struct row end = single(own.laid.total), other_end = single(other.laid.total);
+    while (!meet(own.row, end) || !meet(other.row, other_end)) {
+        struct found f = {128, own.row};
+        struct base near = {~0ull, ~0ull}; // not asked for where there is one position to weigh
+        if (any(but_first(own.row))) near = joined(&other, other.row);
+        for (size_t i = 0; i < own.laid.blocks; i++) f = weigh_block(i, &own, &other, near, mines, rows, f);
+        int again = at > 0 && out[at - 1] == f.code;
+        own.row = f.kept;
+        read_on(&own, again, f.code);
+        read_on(&other, again, f.code);
+        out[at++] = f.code;
+    }
+    return at;
+}
+
 // A stretch of one character in a fixed text, up to its place `to`, or the text's end: the character, those that part from it to the right side, at which
 // positions of the shape one can stay with it or part from it, and whether a text may end here.
 struct stretch {
@@ -317,6 +439,12 @@ uint64_t rows_at_most(const uint64_t *x, size_t nx, const uint64_t *y, size_t ny
 
 uint64_t rows_before(const uint64_t *x, size_t nx, const uint64_t *y, size_t ny, uint8_t *t, size_t w, uint64_t *ox, size_t a, uint64_t *oy, size_t b) {
     return narrow(2, x, nx, y, ny, t, w, ox, a, oy, b);
+}
+
+uint64_t rows_common(const uint64_t *x, size_t nx, const uint64_t *y, size_t ny, uint8_t *t, size_t w, uint8_t *out, size_t k) {
+    if (!plain_check(x, nx) || !plain_check(y, ny) || w < 63001 || k < 250) return 1000;
+    memset(t, 0, 63001);
+    return earliest(x, nx, y, ny, out);
 }
 
 uint64_t rows_book(const uint64_t *counts, size_t texts, uint64_t *blocks, size_t nb, const uint64_t *rules, size_t nr, uint8_t *t, size_t w) {

@@ -9,7 +9,7 @@ print. Nothing in it is taken from the proved library.
     second.py report           reads a book's file and prints the report that is due
     second.py example          prints document 01's book
 
-NAME is base, sweep, narrow, book or file. A case is a line, its fields parted by single blanks. A number is
+NAME is base, sweep, narrow, common, book or file. A case is a line, its fields parted by single blanks. A number is
 lowercase hex without needless zeros. A list is its count and then its numbers; a shape is lent as any
 count of 64-bit numbers, also none. Expected counts, and what a refusal tells, are decimal.
 
@@ -33,6 +33,13 @@ the work buffer the bytes 0 at its start and the bytes 0x5a at its end are count
 
     N kind k rx ry X Y    narrow outputs work z e | none outputs work z e | refused number text place outputs work z e
 
+common. The earliest common text of X and Y. The work buffer has k bytes, each 0x5a, and is shown as above.
+The output has r bytes, each 0xa5; the text is shown as in base, and then the untouched bytes at the
+output's end are counted, all of them where there is no text.
+
+    C k r X Y        text length text rest e work z e | none rest e work z e
+                     | refused number text place rest e work z e
+
 book. Work buffer, block counts of the texts, blocks and rules. All numbers of the blocks are shown
 after the call, and the work buffer as above.
 
@@ -49,11 +56,12 @@ import sys
 
 import base
 import book
+import common
 import file
 import narrow
 import sweep
 
-NAMES = {"base": base, "sweep": sweep, "narrow": narrow, "book": book, "file": file}
+NAMES = {"base": base, "sweep": sweep, "narrow": narrow, "common": common, "book": book, "file": file}
 
 # More than a stored output should have.
 OUTPUT_ROOM = 1_200_000

@@ -50,6 +50,13 @@ pub enum Narrowed {
     Refused(Refusal),
 }
 
+// The earliest common text of two shapes, written to an output: its length; or that no text fits both.
+pub enum Shown {
+    Text(usize),
+    None,
+    Refused(Refusal),
+}
+
 // How a book's run ends: with stable shapes or in none, with the applications made.
 pub enum Ran {
     Stable(u64),

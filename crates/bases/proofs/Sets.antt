@@ -1,7 +1,7 @@
 -- Bases as sets: equal by their characters; what two share and what either holds, and whether they meet. Assumes nothing.
 use mathlib.Core.Path.{_≡_, refl, sym, ap, ap₂, _∙_}
 use mathlib.Core.Logic.{_⊎_, inl, inr, ⊎-elim}
-use Prim.Native.Nat.{ℕ, zero, suc, _/_, _%_, _^_, _<_}
+use Prim.Native.Nat.{ℕ, zero, suc, _/_, _%_, _^_, _≤_, _<_}
 use native.Mathlib.Nat.{mod-lt, div-one}
 use native.Mathlib.Omega.{arith}
 use lib.Arith.{bin-ind}
@@ -40,6 +40,19 @@ same-base = bin-ind (λ (a : ℕ). (b : ℕ) → ((c : ℕ) → Holds a c → Ho
         (λ za. ⊎-elim (λ zb. za ∙ sym zb) (λ ob. from ob ∙ sym ob) (bit-cases b))
         (λ oa. oa ∙ sym (to oa)) (bit-cases a) in
         omega arith
+
+-- a base whose characters another has is at most that number
+pub within-most : (a b : ℕ) → ((c : ℕ) → Holds a c → Holds b c) → a ≤ b
+unfolding Holds
+within-most = bin-ind (λ (a : ℕ). (b : ℕ) → ((c : ℕ) → Holds a c → Holds b c) → a ≤ b) (λ b f. omega arith) step
+  where
+    low : (n : ℕ) → n / 2 ^ 0 % 2 ≡ n % 2
+    low n = ap (λ (x : ℕ). x % 2) (div-one n)
+
+    step : (a : ℕ) → ((b : ℕ) → ((c : ℕ) → Holds (a / 2) c → Holds b c) → a / 2 ≤ b) → (b : ℕ) → ((c : ℕ) → Holds a c → Holds b c) → a ≤ b
+    step a ih b f =
+        let halves : a / 2 ≤ b / 2 = ih (b / 2) (λ c h. sym (halved b c) ∙ f (suc c) (halved a c ∙ h)) in
+        ⊎-elim (λ z. omega arith) (λ o. let one : b % 2 ≡ 1 = sym (low b) ∙ f 0 (low a ∙ o) in omega arith) (bit-cases a)
 
 -- ---- what two bases share, and what either holds
 

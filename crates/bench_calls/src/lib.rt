@@ -2,6 +2,7 @@
 use answers::Fit;
 use answers::Narrowed;
 use answers::Ran;
+use answers::Shown;
 use answers::Swept;
 use answers::Written;
 
@@ -72,6 +73,16 @@ pub extern "C" fn wedgeotter_before(
     out_y: &mut [u64],
 ) -> u64 {
     narrowed(dashed::narrow_before(x, y, work, out_x, out_y))
+}
+
+// The text's length, and 2000 for none.
+#[no_mangle]
+pub extern "C" fn wedgeotter_common(x: &[u64], y: &[u64], work: &mut [u8], out: &mut [u8]) -> u64 {
+    match dashed::common_text(x, y, work, out) {
+        Shown::Text(n) => n as u64,
+        Shown::None => 2000,
+        Shown::Refused(_) => 1000,
+    }
 }
 
 // The applications made, with bit 20 where the run ends in none.

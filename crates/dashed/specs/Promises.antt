@@ -6,9 +6,11 @@ use Rattle.answers.specs.declared.Checked.{Checked}
 use Rattle.answers.specs.declared.Fit.{Fit}
 use Rattle.answers.specs.declared.Narrowed.{Narrowed}
 use Rattle.answers.specs.declared.Ran.{Ran}
+use Rattle.answers.specs.declared.Shown.{Shown}
 use Rattle.answers.specs.declared.Swept.{Swept}
 use Rattle.answers.specs.declared.Written.{Written}
 use Rattle.book_runs.specs.Rounds.{RunPromise}
+use Rattle.common_calls.specs.Common.{ShowPromise}
 use Rattle.extremes.specs.declared.Direction.the-variants.{Least, Greatest}
 use Rattle.extremes.specs.Extreme.{ExtremePromise}
 use Rattle.file_runs.specs.Promise.{FilePromise}
@@ -52,6 +54,10 @@ NarrowAtMost xs ys work ox oy work′ ox′ oy′ r = NarrowPromise AtMost xs ys
 
 abbrev pub NarrowBefore : List ℕ → List ℕ → List ℕ → List ℕ → List ℕ → List ℕ → List ℕ → List ℕ → Narrowed → Type 0
 NarrowBefore xs ys work ox oy work′ ox′ oy′ r = NarrowPromise Before xs ys work ox oy work′ ox′ oy′ r
+
+-- the earliest common text of xs and ys (document 02, order 2): lent work and one output; with ′ they are as handed back
+abbrev pub CommonText : List ℕ → List ℕ → List ℕ → List ℕ → List ℕ → List ℕ → Shown → Type 0
+CommonText xs ys work out work′ out′ r = ShowPromise xs ys work out work′ out′ r
 
 -- running a book: lent the texts' block counts, all blocks, the rules and work; with ′ blocks and work as handed back
 abbrev pub RunBook : List ℕ → List ℕ → List ℕ → List ℕ → List ℕ → List ℕ → Ran → Type 0

@@ -1,12 +1,13 @@
-// The calls of document 01. None has a duty for its caller: whatever is lent, the call ends, answers or refuses by number, text and place,
+// The calls of document 01, and of document 02. None has a duty for its caller: whatever is lent, the call ends, answers or refuses by number, text and place,
 // and a refusal leaves all lent memory as on entry.
 use answers::Checked;
 use answers::Fit;
 use answers::Narrowed;
 use answers::Ran;
+use answers::Shown;
 use answers::Swept;
 use answers::Written;
-ghost use Rattle.dashed.specs.Promises.{CheckShape, FitsShape, Earlier, LeastText, GreatestText, Sweep, NarrowEqual, NarrowAtMost, NarrowBefore, RunBook, RunFile};
+ghost use Rattle.dashed.specs.Promises.{CheckShape, FitsShape, Earlier, LeastText, GreatestText, Sweep, NarrowEqual, NarrowAtMost, NarrowBefore, CommonText, RunBook, RunFile};
 
 // Checks a shape, lent as 64-bit numbers, four to a block.
 pub fn check_shape(shape: &[u64]) -> Checked
@@ -92,6 +93,14 @@ pub fn narrow_before(
         (now (work .exit)) (now («out_x» .exit)) (now («out_y» .exit)) r ⌝ }
 {
     kinds::narrow(2, x, y, work, out_x, out_y)
+}
+
+// The earliest text that fits both x and y, into an output of at least 250 bytes; its length; or that no text fits both. It takes a work buffer of at least
+// 63,001 bytes.
+pub fn common_text(x: &[u64], y: &[u64], work: &mut [u8], out: &mut [u8]) -> Shown
+    ensures { λ r. ⌜ CommonText (now (x .entry)) (now (y .entry)) (now (work .entry)) (now (out .entry)) (now (work .exit)) (now (out .exit)) r ⌝ }
+{
+    common_calls::common_text(x, y, work, out)
 }
 
 // Runs a book of rules: the texts' block counts, all their blocks end to end, the rules as triples (kind, a, b). The final shapes are left in the blocks; on none

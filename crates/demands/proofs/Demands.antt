@@ -2,9 +2,8 @@
 use mathlib.Core.Path.{_≡_, refl, sym, ap, _∙_, subst, subst₂}
 use mathlib.Core.List.{List}
 use Prim.Native.Nat.{ℕ}
-use lib.ListN.{length, take, drop, length-append}
+use lib.ListN.{take, drop}
 use lib.Seq.{take-at}
-use native.Mathlib.Omega.{arith}
 use Rattle.answers.specs.declared.Written.{Written}
 use Rattle.extremes.specs.declared.Direction.{Direction}
 use Rattle.extremes.specs.declared.Direction.the-variants.{Least, Greatest}
@@ -13,14 +12,15 @@ use Rattle.extremes.specs.Steps.{extreme}
 use Rattle.shapes.specs.Lent.{shapeOf}
 use Rattle.texts.specs.Order.{AtMost, Before}
 use Rattle.pairs.specs.Narrow.{NarrowPromise}
+use Rattle.common_calls.proofs.Common.{common-one}
 use Rattle.sweep_calls.proofs.Sweeping.{sweep-determined}
 use Rattle.book_runs.proofs.Determined.{run-determined}
 use Rattle.book_steps.proofs.Standing.{standing-first}
 use Rattle.file_runs.proofs.Determined.{run-file-determined}
 use Rattle.dashed.proofs.Determined.{check-shape-determined, fits-determined, earlier-determined, extreme-determined}
 use Rattle.demands.specs.Demands.{Demand1, Demand2, Demand3, Exact, KeepsExactly}
-use Rattle.demands.proofs.Refusals.{check-shape-refuses, fits-refuses, text-refuses, sweep-refuses, narrowing-refuses, run-book-refuses, run-file-refuses}
-use Rattle.demands.proofs.Exact.{none-texts, some-texts, keeps-exactly, written-shape}
+use Rattle.demands.proofs.Refusals.{check-shape-refuses, fits-refuses, text-refuses, sweep-refuses, common-text-refuses, narrowing-refuses, run-book-refuses, run-file-refuses}
+use Rattle.demands.proofs.Exact.{none-texts, some-texts, keeps-exactly, narrowed-shapes}
 use Rattle.demands.proofs.Sequences.{alone-stable, stable-alone, calls-agree, permuted-agree, calls-widest, calls-none, runner-stable, runner-none}
 use Rattle.demands.proofs.Choices.{choice-kept}
 
@@ -31,11 +31,13 @@ demand-1 = record {
   least = text-refuses Least;
   greatest = text-refuses Greatest;
   sweep = sweep-refuses;
+  common-text = common-text-refuses;
   run-book = run-book-refuses;
   run-file = run-file-refuses;
   least-untouched = λ xs out out′ q p. p .1;
   greatest-untouched = λ xs out out′ q p. p .1;
   sweep-untouched = λ xs ys out out′ q p. p .1;
+  common-text-untouched = λ xs ys work out work′ out′ q p. (p .1, p .2);
   book-untouched = λ counts blocks rules work blocks′ work′ q p. (p .1, p .2);
   file-untouched = λ file report report′ q p. p .1;
   equal = narrowing-refuses (λ t u. t ≡ u);
@@ -47,6 +49,7 @@ demand-1 = record {
   least-one = extreme-determined Least;
   greatest-one = extreme-determined Greatest;
   sweep-one = λ xs ys out out′ out″ r s p q. sweep-determined xs ys out out′ out″ r s p q;
+  common-text-one = common-one;
   run-book-one = run-determined;
   run-file-one = run-file-determined;
 }
@@ -57,22 +60,15 @@ exact : (R : List ℕ → List ℕ → Type 0) → Exact R (NarrowPromise R)
 exact R = record {
   none-sound = λ {xs} {ys} p. none-texts R (shapeOf xs) (shapeOf ys) (p .1 .none);
   none-complete = λ {xs} {ys} p. some-texts R (shapeOf xs) (shapeOf ys) (p .1 .hull);
-  keeps = λ {xs} {ys} {work} {ox} {oy} {work′} {ox′} {oy′} p.
+  keeps = λ {xs} {ys} p.
       let n = p .1 in
-      let second : length (n .second) ≡ length (shapeOf ys) =
-      let a = length-append (n .first) (n .second) in
-      let b = length-append (shapeOf xs) (shapeOf ys) in
-      let c = n .hull .size in
-      let e = n .size in
-      omega arith in
-      subst₂ (KeepsExactly R (shapeOf xs) (shapeOf ys))
-      (sym (written-shape (p .0 .shapes .first) (n .first) (drop (length xs) ox) ox′ (n .size) (n .first-output)))
-      (sym (written-shape (p .0 .shapes .second) (n .second) (drop (length ys) oy) oy′ second (n .second-output)))
+      let read = narrowed-shapes (p .0 .shapes) n in
+      subst₂ (KeepsExactly R (shapeOf xs) (shapeOf ys)) (sym (read .0)) (sym (read .1))
       (keeps-exactly R (shapeOf xs) (shapeOf ys) (n .first) (n .second) (n .size) (n .hull));
 }
 
 -- the text at the start of the output
-written : (d : Direction) {xs out out′ : List ℕ} (n : ℕ) → ExtremePromise d xs out out′ (Written.Text n) → take n out′ ≡ extreme d (shapeOf xs)
+pub written : (d : Direction) {xs out out′ : List ℕ} (n : ℕ) → ExtremePromise d xs out out′ (Written.Text n) → take n out′ ≡ extreme d (shapeOf xs)
 written d {out} n p = ap (take n) (p .bytes) ∙ take-at _ (drop n out) n (sym (p .length-is))
 
 meant : (d : Direction) {xs out out′ : List ℕ} (n : ℕ) → ExtremePromise d xs out out′ (Written.Text n) → Extreme d (shapeOf xs) (take n out′)

@@ -4,14 +4,17 @@ use mathlib.Core.List.{List, [], _++_}
 use Prim.Native.Nat.{ℕ, _+_, _<_}
 use native.Mathlib.Omega.{arith}
 use lib.ListN.{length, getD, take, drop, length-append, List·getD-append}
-use lib.Seq.{take-at, getD-append-add, getD-take, getD-drop}
-use Rattle.shapes.specs.Shape.{Block, textOf, Fits, noBlock}
+use lib.Seq.{take-at, drop-at, getD-append-add, getD-take, getD-drop}
+use Rattle.shapes.specs.Shape.{Block, Filling, textOf, Fits, noBlock}
 use Rattle.shapes.specs.Lent.{shapeOf, wordsOf, Accepted}
 use Rattle.shapes.proofs.Lent.{shape-length}
 use Rattle.shapes.proofs.Numbers.{shape-words, words-length}
 use Rattle.hulls.specs.Hull.{Pairs, Satisfies, None, Tight, Hull}
 use Rattle.hulls.proofs.Fill.{filling-size, split-first, split-second, pair-satisfies}
+use Rattle.hulls.proofs.Hull.{keeps}
 use Rattle.hulls.proofs.Tight.{tight-same}
+use Rattle.pairs.specs.Pair.{PairAccepted}
+use Rattle.pairs.specs.Narrow.{Narrows}
 use Rattle.demands.specs.Demands.{Pair, KeepsExactly}
 
 module _ (R : List ℕ → List ℕ → Type 0) (X Y : List Block) where
@@ -40,6 +43,17 @@ module _ (R : List ℕ → List ℕ → Type 0) (X Y : List Block) where
         record { runs = p .first; filling = p .fills-first; joined = λ _. textOf (p .first) },
         record { runs = p .second; filling = p .fills-second; joined = λ _. textOf (p .second) },
         p .satisfies,
+      )
+
+  -- ---- no two texts that satisfy the rule are lost
+
+  pub keeps-texts : {X′ Y′ : List Block} → length X′ ≡ length X → Hull (Pairs R (length X)) (X ++ Y) (X′ ++ Y′)
+      → (t u : List ℕ) → Fits X t → Fits Y u → R t u → Fits X′ t × Fits Y′ u
+  keeps-texts {X′} {Y′} size h t u x y r =
+      let kept = keeps (pair-satisfies R (x .filling) (y .filling) (subst₂ R (sym (x .joined)) (sym (y .joined)) r)) h .filling in
+      let long : length (x .runs) ≡ length X′ = filling-size (x .filling) ∙ sym size in (
+        record { runs = x .runs; filling = subst (Filling X′) (take-at (x .runs) (y .runs) (length X′) long) (split-first X′ Y′ kept); joined = x .joined },
+        record { runs = y .runs; filling = subst (Filling Y′) (drop-at (x .runs) (y .runs) (length X′) long) (split-second X′ Y′ kept); joined = y .joined },
       )
 
   -- ---- what each block keeps
@@ -86,3 +100,15 @@ written-shape {xs} a S o o′ e f =
     let whole = a .right .whole in
     omega arith in
     ap (λ (l : List ℕ). shapeOf (take (length xs) l)) f ∙ ap shapeOf (take-at (wordsOf S) o (length xs) size) ∙ shape-words S
+
+-- both shapes that narrowing leaves
+pub narrowed-shapes : {R : List ℕ → List ℕ → Type 0} {xs ys ox oy ox′ oy′ : List ℕ} → PairAccepted xs ys → (n : Narrows R xs ys ox oy ox′ oy′)
+    → (shapeOf (take (length xs) ox′) ≡ n .first) × (shapeOf (take (length ys) oy′) ≡ n .second)
+narrowed-shapes {xs} {ys} {ox} {oy} {ox′} {oy′} a n =
+    let second : length (n .second) ≡ length (shapeOf ys) =
+    let a = length-append (n .first) (n .second) in
+    let b = length-append (shapeOf xs) (shapeOf ys) in
+    let c = n .hull .size in
+    let e = n .size in
+    omega arith in
+    (written-shape (a .first) (n .first) (drop (length xs) ox) ox′ (n .size) (n .first-output), written-shape (a .second) (n .second) (drop (length ys) oy) oy′ second (n .second-output))

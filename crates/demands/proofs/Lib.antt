@@ -1,7 +1,8 @@
--- The demands, proved by citation.
+-- The demands and requests, proved by citation.
 pub mod Calls
 pub mod Sequences
 pub mod Choices
 pub mod Exact
 pub mod Refusals
 pub mod Demands
+pub mod Requests

@@ -11,6 +11,7 @@ use Rattle.answers.specs.declared.Checked.{Checked}
 use Rattle.answers.specs.declared.Fit.{Fit}
 use Rattle.answers.specs.declared.Narrowed.{Narrowed}
 use Rattle.answers.specs.declared.Ran.{Ran}
+use Rattle.answers.specs.declared.Shown.{Shown}
 use Rattle.answers.specs.declared.Swept.{Swept}
 use Rattle.answers.specs.declared.Written.{Written}
 use Rattle.shapes.specs.Lent.{shapeOf, Accepted, ShapeRefused}
@@ -21,13 +22,15 @@ use Rattle.pairs.specs.Pair.{PairAccepted, Room, NarrowRefused}
 use Rattle.pairs.specs.Narrow.{NarrowPromise}
 use Rattle.pairs.proofs.Pair.{narrow-one, narrow-not}
 use Rattle.pairs.proofs.Determined.{Outcome, narrow-determined}
+use Rattle.common_calls.specs.Common.{ShowRoom, ShowRefused}
+use Rattle.common_calls.proofs.Common.{show-refused-one, show-refused-not}
 use Rattle.sweep_calls.specs.Sweep.{SweepRefused}
 use Rattle.sweep_calls.proofs.Sweeping.{one-refusal, not-due}
 use Rattle.books.specs.Refused.{BookAccepted, BookRefused}
 use Rattle.books.proofs.Refused.{book-one, book-not}
 use Rattle.file_runs.specs.Promise.{RunRefused}
 use Rattle.file_runs.proofs.Determined.{run-refused-one, run-file-not}
-use Rattle.dashed.specs.Promises.{CheckShape, FitsShape, Sweep, RunBook, RunFile}
+use Rattle.dashed.specs.Promises.{CheckShape, FitsShape, Sweep, CommonText, RunBook, RunFile}
 use Rattle.demands.specs.Demands.{Refuses, TextRefused, FileAcceptable, NarrowingRefuses}
 
 pub check-shape-refuses : (xs : List ℕ) → Refuses Checked.Refused (CheckShape xs) (Accepted xs) (ShapeRefused 1 xs)
@@ -64,7 +67,7 @@ text-refuses d xs out out′ = record { acceptable = λ a q p. text-not xs out (
     malformed n (Written.Text m) p = absurd (n (p .accepted, p .room))
     malformed n (Written.Refused q) p = (q, refl, p .0)
 
--- ---- the sweep, narrowing, a book
+-- ---- the sweep, the earliest common text, narrowing, a book
 
 pub sweep-refuses : (xs ys out out′ : List ℕ)
     → Refuses Swept.Refused (Sweep xs ys out out′) (PairAccepted xs ys × (2 * length (shapeOf xs) ≤ length out)) (SweepRefused xs ys (length out))
@@ -79,6 +82,20 @@ sweep-refuses xs ys out out′ = record {
     malformed n (Swept.Places k) p = absurd (n (p .accepted, p .room))
     malformed n (Swept.Cannot k) p = absurd (n (p .accepted, p .room))
     malformed n (Swept.Refused q) p = (q, refl, p .0)
+
+pub common-text-refuses : (xs ys work out work′ out′ : List ℕ)
+    → Refuses Shown.Refused (CommonText xs ys work out work′ out′) (PairAccepted xs ys × ShowRoom (length work) (length out)) (ShowRefused xs ys (length work) (length out))
+common-text-refuses xs ys work out work′ out′ = record {
+  acceptable = λ a q p. show-refused-not (p .0) (a .0) (a .1);
+  malformed = malformed;
+  one = λ t u p q. show-refused-one p q;
+}
+  where
+    malformed : (PairAccepted xs ys × ShowRoom (length work) (length out) → ⊥) → (r : Shown) → CommonText xs ys work out work′ out′ r
+        → (q : Refusal) × (r ≡ Shown.Refused q) × ShowRefused xs ys (length work) (length out) (told q)
+    malformed n (Shown.Text m) p = absurd (n (p .0 .shapes, p .0 .room))
+    malformed n Shown.None p = absurd (n (p .0 .shapes, p .0 .room))
+    malformed n (Shown.Refused q) p = (q, refl, p .0)
 
 pub narrowing-refuses : (R : List ℕ → List ℕ → Type 0) → NarrowingRefuses (NarrowPromise R)
 narrowing-refuses R = record {

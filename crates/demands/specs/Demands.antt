@@ -11,6 +11,7 @@ use Rattle.answers.specs.declared.Checked.{Checked}
 use Rattle.answers.specs.declared.Fit.{Fit}
 use Rattle.answers.specs.declared.Narrowed.{Narrowed}
 use Rattle.answers.specs.declared.Ran.{Ran}
+use Rattle.answers.specs.declared.Shown.{Shown}
 use Rattle.answers.specs.declared.Swept.{Swept}
 use Rattle.answers.specs.declared.Written.{Written}
 use Rattle.shapes.specs.Shape.{Block, Filling, textOf, Fits, noBlock}
@@ -19,6 +20,7 @@ use Rattle.texts.specs.Order.{AtMost, Before}
 use Rattle.hulls.specs.Hull.{Tight}
 use Rattle.hulls.specs.Book.{Within, Stable}
 use Rattle.pairs.specs.Pair.{PairAccepted, Room, NarrowRefused}
+use Rattle.common_calls.specs.Common.{ShowRoom, ShowRefused}
 use Rattle.sweep_calls.specs.Sweep.{SweepRefused}
 use Rattle.sweep_steps.specs.Steps.{sweepOf}
 use Rattle.sweeps.specs.Read.{sweptOf, outputOf}
@@ -29,7 +31,7 @@ use Rattle.book_steps.specs.Step.{Standing}
 use Rattle.file_lines.specs.Book.{Book}
 use Rattle.files.specs.Departs.{FileAccepted}
 use Rattle.file_runs.specs.Promise.{RunRefused}
-use Rattle.dashed.specs.Promises.{CheckShape, FitsShape, Earlier, LeastText, GreatestText, Sweep, NarrowEqual, NarrowAtMost, NarrowBefore, RunBook, RunFile}
+use Rattle.dashed.specs.Promises.{CheckShape, FitsShape, Earlier, LeastText, GreatestText, Sweep, NarrowEqual, NarrowAtMost, NarrowBefore, CommonText, RunBook, RunFile}
 use Rattle.demands.specs.Calls.{LeftAlone, none, numbers, Ending, Calls, InOrder, WidestLeft, Choice}
 
 -- ---- demand 1
@@ -71,6 +73,8 @@ pub record Demand1 : Type 1 where
   pub greatest : (xs out out′ : List ℕ) → Refuses Written.Refused (GreatestText xs out out′) (Accepted xs × (250 ≤ length out)) (TextRefused xs out)
   pub sweep : (xs ys out out′ : List ℕ) → Refuses Swept.Refused (Sweep xs ys out out′) (PairAccepted xs ys × (2 * length (shapeOf xs) ≤ length out))
       (SweepRefused xs ys (length out))
+  pub common-text : (xs ys work out work′ out′ : List ℕ) → Refuses Shown.Refused (CommonText xs ys work out work′ out′)
+      (PairAccepted xs ys × ShowRoom (length work) (length out)) (ShowRefused xs ys (length work) (length out))
   pub run-book : (counts blocks rules work blocks′ work′ : List ℕ) → Refuses Ran.Refused (RunBook counts blocks rules work blocks′ work′)
       (BookAccepted counts blocks rules (length work)) (BookRefused counts blocks rules (length work))
   pub run-file : (file report report′ : List ℕ) → Refuses Written.Refused (RunFile file report report′) (FileAcceptable file (length report))
@@ -79,6 +83,7 @@ pub record Demand1 : Type 1 where
   pub least-untouched : (xs out out′ : List ℕ) (q : Refusal) → LeastText xs out out′ (Written.Refused q) → out′ ≡ out
   pub greatest-untouched : (xs out out′ : List ℕ) (q : Refusal) → GreatestText xs out out′ (Written.Refused q) → out′ ≡ out
   pub sweep-untouched : (xs ys out out′ : List ℕ) (q : Refusal) → Sweep xs ys out out′ (Swept.Refused q) → out′ ≡ out
+  pub common-text-untouched : (xs ys work out work′ out′ : List ℕ) (q : Refusal) → CommonText xs ys work out work′ out′ (Shown.Refused q) → (work′ ≡ work) × (out′ ≡ out)
   pub book-untouched : (counts blocks rules work blocks′ work′ : List ℕ) (q : Refusal) → RunBook counts blocks rules work blocks′ work′ (Ran.Refused q)
       → (blocks′ ≡ blocks) × (work′ ≡ work)
   pub file-untouched : (file report report′ : List ℕ) (q : Refusal) → RunFile file report report′ (Written.Refused q) → report′ ≡ report
@@ -93,6 +98,8 @@ pub record Demand1 : Type 1 where
   pub least-one : (xs out out′ out″ : List ℕ) (r s : Written) → LeastText xs out out′ r → LeastText xs out out″ s → (r ≡ s) × (out′ ≡ out″)
   pub greatest-one : (xs out out′ out″ : List ℕ) (r s : Written) → GreatestText xs out out′ r → GreatestText xs out out″ s → (r ≡ s) × (out′ ≡ out″)
   pub sweep-one : (xs ys out out′ out″ : List ℕ) (r s : Swept) → Sweep xs ys out out′ r → Sweep xs ys out out″ s → (r ≡ s) × (out′ ≡ out″)
+  pub common-text-one : (xs ys work out work′ out′ work″ out″ : List ℕ) (r s : Shown) → CommonText xs ys work out work′ out′ r
+      → CommonText xs ys work out work″ out″ s → (r ≡ s) × (work′ ≡ work″) × (out′ ≡ out″)
   pub run-book-one : (counts blocks rules work b b′ w w′ : List ℕ) (r s : Ran) → RunBook counts blocks rules work b w r → RunBook counts blocks rules work b′ w′ s
       → (r ≡ s) × (b ≡ b′) × (w ≡ w′)
   pub run-file-one : (file report report′ report″ : List ℕ) (r s : Written) → RunFile file report report′ r → RunFile file report report″ s

@@ -6,19 +6,10 @@ use Prim.Native.Nat.{ℕ, zero, suc, _≤_}
 use native.Mathlib.Omega.{arith}
 use borrow.Author.Tests.{eq-eqb, ne-eqb}
 use lib.Dec.{eqb}
-use lib.ListN.{length}
-use Rattle.shapes.specs.Lent.{Whole, Accepted}
 use Rattle.texts.specs.Kind.{relationOf, lastKind}
 use Rattle.texts.specs.Order.{AtMost, Before}
 use Rattle.pairs.specs.Narrow.{NarrowAnswer}
 use Rattle.rests.specs.Walk.{Same}
-
-pub whole : {xs : List ℕ} → Accepted xs → Whole xs
-whole a = record { blocks = a .right .whole; sound = a .sound; short = a .short }
-
--- and has few numbers
-pub few : {xs : List ℕ} → Accepted xs → length xs ≤ 128
-few a = let n = a .right .few in let w = a .right .whole in omega arith
 
 module _ {xs ys ox oy ox′ oy′ : List ℕ} {r : Bool} where
   pub by-equality : (k : ℕ) → k ≡ 0 → NarrowAnswer Same xs ys ox oy ox′ oy′ r → NarrowAnswer (relationOf k) xs ys ox oy ox′ oy′ r

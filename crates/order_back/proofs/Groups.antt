@@ -22,9 +22,9 @@ use Rattle.order_sides.specs.Guide.{Guide}
 use Rattle.order_guides.specs.Guide.{nextOf, Steady}
 use Rattle.order_guides.proofs.Guide.{next-past}
 use Rattle.order_guides.proofs.Text.{taken-length}
-use Rattle.order_rows.specs.Laid.{Laid}
+use Rattle.row_paths.specs.Laid.{Laid}
 use Rattle.order_rows.specs.Rows.{MatchRows, Limit, Right}
-use Rattle.order_rows.proofs.Laid.{laid-zones, laid-meets}
+use Rattle.row_paths.proofs.Laid.{laid-zones, laid-meets}
 use Rattle.order_rows.proofs.Evens.{limit-end}
 use Rattle.order_rows.proofs.Rests.{rests-none}
 use Rattle.order_rows.proofs.Passes.{pass-none, sorted-as, brought-none, brought-more}

@@ -13,7 +13,7 @@ use Rattle.rows.specs.Row.{rowIn, tableSize}
 use Rattle.rows.specs.Steps.{Matched, Given}
 use Rattle.order_sides.specs.Guide.{Guide}
 use Rattle.order_guides.specs.Guide.{Plain}
-use Rattle.order_rows.specs.Laid.{Laid}
+use Rattle.row_paths.specs.Laid.{Laid}
 use Rattle.order_rows.specs.Rows.{Limit, Brought}
 use Rattle.order_states.specs.declared.Sorts.{Sorts}
 use Rattle.order_states.specs.declared.Gathered.{Gathered}

@@ -13,9 +13,9 @@ use Rattle.rows.specs.Row.{rowIn, PutRow}
 use Rattle.rows.specs.Steps.{Leads, Matched}
 use Rattle.rows.proofs.Rows.{rows-more}
 use Rattle.order_guides.specs.Guide.{nextOf}
-use Rattle.order_rows.specs.Laid.{Laid}
+use Rattle.row_paths.specs.Laid.{Laid}
 use Rattle.order_rows.specs.Rows.{Matches}
-use Rattle.order_rows.proofs.Laid.{laid-zones, laid-meets}
+use Rattle.row_paths.proofs.Laid.{laid-zones, laid-meets}
 use Rattle.order_rows.proofs.Evens.{row-first, row-next, limit-empty}
 use Rattle.order_forth.specs.Forth.{Forth, ForthTo}
 

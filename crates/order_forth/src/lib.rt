@@ -8,7 +8,7 @@ ghost use Rattle.shapes.specs.Lent.{blockAt};
 ghost use Rattle.rows.specs.Row.{rowIn, rowCount, tableSize};
 ghost use Rattle.rows.specs.Steps.{Matched};
 ghost use Rattle.order_guides.specs.Guide.{Plain, nextOf};
-ghost use Rattle.order_rows.specs.Laid.{Laid};
+ghost use Rattle.row_paths.specs.Laid.{Laid};
 ghost use Rattle.shapes.specs.Shape.{blockCount};
 ghost use Rattle.order_forth.specs.Forth.{Forth};
 

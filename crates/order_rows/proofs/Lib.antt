@@ -1,5 +1,4 @@
 -- The laws of rows on one side of an order.
-pub mod Laid
 pub mod Evens
 pub mod Rests
 pub mod Passes

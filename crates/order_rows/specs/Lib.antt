@@ -1,3 +1,2 @@
 -- One side of an order, told by sets of positions.
-pub mod Laid
 pub mod Rows

@@ -22,9 +22,9 @@ use Rattle.order_sides.specs.Guide.{Guide, Kept, Clear}
 use Rattle.order_sides.specs.Collect.{Ends, Collected}
 use Rattle.order_sides.proofs.Runs.{Spot}
 use Rattle.order_sides.proofs.Side.{spot, side-none, side-ends, side-hull}
-use Rattle.order_rows.specs.Laid.{Laid}
+use Rattle.row_paths.specs.Laid.{Laid}
 use Rattle.order_rows.specs.Rows.{Known}
-use Rattle.order_rows.proofs.Laid.{laid-zones}
+use Rattle.row_paths.proofs.Laid.{laid-zones}
 use Rattle.order_rows.proofs.Told.{ends-length, told-collected}
 use Rattle.order_states.specs.declared.Gathered.{Gathered}
 use Rattle.order_back.specs.Back.{Gathers}

@@ -13,7 +13,7 @@ ghost use Rattle.rows.specs.Steps.{InTurn};
 ghost use Rattle.order_sides.specs.Guide.{Kept};
 ghost use Rattle.order_guides.specs.Sides.{Side};
 ghost use Rattle.order_guides.specs.Guide.{Plain, guideOf};
-ghost use Rattle.order_rows.specs.Laid.{Laid};
+ghost use Rattle.row_paths.specs.Laid.{Laid};
 ghost use Rattle.order_texts.specs.Narrowed.{One};
 ghost use Rattle.order_texts.specs.Freed.{Freed};
 

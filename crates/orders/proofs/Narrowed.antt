@@ -8,7 +8,7 @@ use lib.ListN.{length, getD, take, drop}
 use lib.Seq.{take-at, getD-take}
 use Rattle.shapes.specs.All.{All}
 use Rattle.shapes.specs.Shape.{Block, Small, textOf}
-use Rattle.shapes.specs.Lent.{Whole, shapeOf, Accepted}
+use Rattle.shapes.specs.Lent.{shapeOf}
 use Rattle.shapes.proofs.All.{all-at}
 use Rattle.shapes.proofs.Fits.{fits-length}
 use Rattle.texts.specs.Order.{AtMost, Before}
@@ -28,9 +28,6 @@ use Rattle.orders.specs.Ordered.{Ordered}
 use Rattle.orders.proofs.Ordered.{at-most-ordered, before-ordered, of-least, fitting, order-hull, order-none}
 
 -- ---- the text of the other side
-
-pub whole-of : {x : List ℕ} → Accepted x → Whole x
-whole-of a = record { blocks = a .right .whole; sound = a .sound; short = a .short }
 
 module _ {e : Direction} {x out out′ : List ℕ} {n : ℕ} (w : TextWritten e x out out′ n) where
   pub text-taken : take n out′ ≡ extreme e (shapeOf x)

@@ -142,6 +142,20 @@ used-more {X} {Y} {U} {W} {i} {e} s t l d x y = exactly-as to from (either-exact
         (λ c. let g = v .from in inl (x .mark j (record { number = v .number; from = omega (arith, c); before = v .before; takes = v .takes })))
         (eq-or-ne i (v .number))
 
+-- the row there: closed under the ends of runs of Y
+pub row-before : {X Y : ℕ → Block} {U W : ℕ} {Z E : ℕ → ℕ} {m p : ℕ} {b : Block} → Zones Y Z E m → BlockIn X p b → p + b .upper ≤ U
+    → (o mine stop next d step seeds : ℕ) {row : ℕ} → o < b .upper → Exactly mine (λ q. Meets (b .base) (Y q .base))
+    → Exactly stop (λ j. Path X Y U W (p + b .upper) j) → Exactly next (λ j. Path X Y U W (p + o + 1) j)
+    → d ≡ next / 2 → step ≡ bitAnd d mine → (leb (b .lower) o ≡ true → seeds ≡ bitOr step stop) → (leb (b .lower) o ≡ false → seeds ≡ step)
+    → Exactly row (Leads Z E m seeds) → Exactly row (λ j. Path X Y U W (p + o) j)
+row-before {b = b} z k fits o mine stop next d step seeds small m y x de se on off ro =
+    let stepped = taken-row k fits o small next mine x m de se in
+    left-row z
+    (⊎-elim
+    (λ c. exactly-at (off (lt-leb (b .lower) o c)) (leaves-bound k fits o small c stepped))
+    (λ c. leaves-free k fits o small step stop c stepped y (on (le-leb (b .lower) o c)))
+    (lt-or-le o (b .lower))) ro
+
 -- ---- all of it
 
 so-true : (r : Bool) {P : Type 0} → Tells r P → P → r ≡ true
@@ -180,11 +194,7 @@ module _ {X Y : ℕ → Block} {U W : ℕ} {Z E : ℕ → ℕ} {m p : ℕ} {b : 
       took = takes-here f step x stepped he
 
       rowed : Exactly row (λ j. Path X Y U W (p + o) j)
-      rowed = left-row z
-          (⊎-elim
-          (λ c. exactly-at (off (lt-leb (b .lower) o c)) (leaves-bound k fits o small c stepped))
-          (λ c. leaves-free k fits o small step stop c stepped y (on (le-leb (b .lower) o c)))
-          (lt-or-le o (b .lower))) ro
+      rowed = row-before z k fits o mine stop next d step seeds small m y (g .row-is) de se on off ro
 
       at : p + b .upper ≡ p + o + X (p + o) .upper
       at = let a = slot-upper k o small in omega arith

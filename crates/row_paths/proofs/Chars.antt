@@ -102,9 +102,18 @@ module _ {X Y : ℕ → Block} {U W : ℕ} where
     pub moved-none : {a : ℕ} → a ≡ 0 → Exactly a (λ j. From U (λ h. Takes Y X W U j h))
     moved-none z = none-exactly z (λ j f. no-takes (f .from) (turn-takes (f .has)))
 
+    -- the row there is what runs of Y that end lead to W from
+    pub row-last : {Z E : ℕ → ℕ} {k s row : ℕ} → Zones Y Z E k → Exactly s (λ e. e ≡ W) → Exactly row (Leads Z E k s) → Exactly row (λ j. Path X Y U W U j)
+    row-last z x ro = left-row z (exactly-as (λ j h. end refl h) leaves x) ro
+      where
+        leaves : (j : ℕ) → LeadsOn X Y U W U j → j ≡ W
+        leaves j (end i f) = f
+        leaves j (ended g w) = let l = free U g in absurd (omega arith)
+        leaves j (taken m w) = let l = held U (m .shared) (m .first) in absurd (omega arith)
+
     pub gathered-last : {Z E : ℕ → ℕ} {k s row cut f quit a b c : ℕ} → Zones Y Z E k → Bounded X U → Exactly s (λ e. e ≡ W) → Exactly row (Leads Z E k s) → Exactly cut (Lands Z E k row)
         → Exactly f (λ j. Path X Y U j 0 0) → quit ≡ bitAnd f cut → a ≡ 0 → b ≡ 0 → c ≡ 0 → Gathered X Y U W U U row a quit b c
-    gathered-last {s = s} {row = row} z bound x ro cu y e za zb zc = record {
+    gathered-last {row = row} z bound x ro cu y e za zb zc = record {
       row-is = rowed;
       used-is = used-none za;
       quit-is = exactly-as
@@ -115,13 +124,8 @@ module _ {X Y : ℕ → Block} {U W : ℕ} where
       own-moved-is = none-exactly zc (λ h v. no-takes (v .from) (v .has));
     }
       where
-        leaves : (j : ℕ) → LeadsOn X Y U W U j → j ≡ W
-        leaves j (end i f) = f
-        leaves j (ended g w) = let l = free U g in absurd (omega arith)
-        leaves j (taken m w) = let l = held U (m .shared) (m .first) in absurd (omega arith)
-
         rowed : Exactly row (λ j. Path X Y U W U j)
-        rowed = left-row z (exactly-as (λ j h. end refl h) leaves x) ro
+        rowed = row-last z x ro
 
 -- ---- all rows
 

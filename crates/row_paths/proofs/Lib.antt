@@ -7,3 +7,4 @@ pub mod Told
 pub mod Chars
 pub mod Shapes
 pub mod Lent
+pub mod Laid

@@ -14,7 +14,7 @@ use Rattle.bases.specs.Tells.{Tells}
 use Rattle.bases.proofs.Laws.{halved, none-in-zero}
 use Rattle.bases.proofs.Tells.{tells-bit}
 use Rattle.bases.proofs.Plain.{lt-or-le, eq-or-ne}
-use Rattle.bases.proofs.Sets.{same-base, both, shared, either, in-first, in-second}
+use Rattle.bases.proofs.Sets.{same-base, within-most, both, shared, either, in-first, in-second}
 use Rattle.sets.specs.Set.{Exactly, OneUp}
 
 -- ---- what a property says of the number
@@ -85,6 +85,15 @@ without-exactly s t d = exactly-at d (record {
       (held-or-not s e);
   mark = λ e h. rest-bit s t e ∙ ap₂ rest (h .0) (bit-off t e (h .1));
 })
+
+-- without one number: a smaller number, if it was there
+pub without-one : (s : ℕ) {one n i : ℕ} → Exactly one (λ e. e ≡ i) → Exactly n (λ e. Holds s e × (Holds one e → ⊥)) → Exactly n (λ e. Holds s e × (e ≡ i → ⊥))
+without-one s o x = exactly-as (λ e h. (h .0, λ d. h .1 (o .mark e d))) (λ e h. (h .0, λ d. h .1 (o .so e d))) x
+
+pub one-fewer : {n : ℕ} (s i : ℕ) → Exactly n (λ e. Holds s e × (e ≡ i → ⊥)) → Holds s i → n < s
+one-fewer {n} s i x h = ⊎-elim (λ l. l)
+    (λ l. let le = within-most n s (λ c g. x .so c g .0) in let same : s ≡ n = omega arith in absurd (x .so i (subst (λ (v : ℕ). Holds v i) same h) .1 refl))
+    (lt-or-le n s)
 
 -- ---- one up and one down
 

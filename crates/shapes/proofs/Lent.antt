@@ -12,7 +12,7 @@ use Rattle.shapes.specs.All.{All}
 use Rattle.shapes.specs.All.All.{none, more}
 use Rattle.shapes.specs.Shape.{Block, Sound, Small, noBlock, total}
 use Rattle.shapes.specs.Wrong.{BlockRefused}
-use Rattle.shapes.specs.Lent.{blockOf, blockAt, shapeOf, FirstBlock}
+use Rattle.shapes.specs.Lent.{blockOf, blockAt, shapeOf, FirstBlock, Accepted, Whole}
 use Rattle.shapes.proofs.All.{all-at, all-of}
 use Rattle.shapes.proofs.Wrong.{block-not}
 
@@ -103,3 +103,11 @@ small-bases (a ∷ []) g = none
 small-bases (a ∷ (b ∷ [])) g = none
 small-bases (a ∷ (b ∷ (c ∷ []))) g = none
 small-bases (a ∷ (b ∷ (c ∷ (d ∷ xs)))) (more p (more q (more r (more t g)))) = more (words-bound a b p q) (small-bases xs g)
+
+-- ---- accepted numbers are whole, and few
+
+pub accepted-whole : {xs : List ℕ} → Accepted xs → Whole xs
+accepted-whole a = record { blocks = a .right .whole; sound = a .sound; short = a .short }
+
+pub accepted-few : {xs : List ℕ} → Accepted xs → length xs ≤ 128
+accepted-few a = let n = a .right .few in let w = a .right .whole in omega arith

@@ -1,6 +1,7 @@
 -- `kinds::narrow_accepted`: by the kind. Assumes nothing.
 use borrow.Author.Needs.{needs}
-use Rattle.kinds.proofs.Kind.{whole, few, by-equality, by-order}
+use Rattle.shapes.proofs.Lent.{accepted-whole, accepted-few}
+use Rattle.kinds.proofs.Kind.{by-equality, by-order}
 use Rattle.kinds.proofs.narrow_accepted.Statement.{statement}
 use Rattle.kinds.proofs.narrow_accepted.Tie as tie
 
@@ -9,7 +10,7 @@ narrow-equal-requires c κs =
     let p = c .before .before .before .before .before .before .before .pre in
     let x = p .1 .0 .first in
     let y = p .1 .0 .second in
-    ((whole x, whole y), ((few x, few y), p .1 .1))
+    ((accepted-whole x, accepted-whole y), ((accepted-few x, accepted-few y), p .1 .1))
 
 same-length : tie.Need-same-length
 same-length c = search needs

@@ -3,7 +3,7 @@ use native.Mathlib.Omega.{arith}
 use mathlib.Core.Path.{refl}
 use lib.ListN.{take}
 use Rattle.order_guides.proofs.Text.{taken-length}
-use Rattle.order_rows.proofs.Laid.{laid-turn}
+use Rattle.row_paths.proofs.Laid.{laid-turn}
 use Rattle.order_back.proofs.Groups.{group-done}
 use borrow.Author.Needs.{needs}
 use Rattle.order_back.proofs.group.Statement.{statement}

@@ -4,7 +4,7 @@ use mathlib.Core.Path.{_≡_, refl, sym, _∙_}
 use Prim.Native.Nat.{_-_}
 use lib.ListN.{length}
 use Rattle.sets.specs.Set.{setOf}
-use Rattle.order_rows.proofs.Laid.{laid-turn}
+use Rattle.row_paths.proofs.Laid.{laid-turn}
 use Rattle.order_forth.specs.Forth.{ForthTo}
 use Rattle.order_forth.proofs.Pass.{forth-first, forth-more, forth-empty, forth-whole}
 use borrow.Author.Needs.{needs}

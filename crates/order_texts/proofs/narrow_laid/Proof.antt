@@ -12,7 +12,7 @@ use Rattle.shapes.specs.Shape.{Small}
 use Rattle.shapes.specs.Lent.{shapeOf}
 use Rattle.shapes.proofs.All.{all-of}
 use Rattle.shapes.proofs.Lent.{small-bases}
-use Rattle.order_rows.proofs.Laid.{laid-turn}
+use Rattle.row_paths.proofs.Laid.{laid-turn}
 use Rattle.order_texts.proofs.Answers.{one-none, one-some}
 use Rattle.order_texts.proofs.Known.{blank-row}
 use Rattle.order_texts.proofs.Sides.{none-right, some-length, narrowed-one}

@@ -8,7 +8,8 @@ use Rattle.shapes.specs.Shape.{Small}
 use Rattle.shapes.specs.Lent.{shapeOf}
 use Rattle.shapes.proofs.All.{all-of}
 use Rattle.shapes.proofs.Lent.{small-bases}
-use Rattle.orders.proofs.Narrowed.{whole-of, text-taken, text-short, text-plain, one-by}
+use Rattle.shapes.proofs.Lent.{accepted-whole}
+use Rattle.orders.proofs.Narrowed.{text-taken, text-short, text-plain, one-by}
 use borrow.Author.Needs.{needs}
 use Rattle.orders.proofs.narrow_by.Statement.{statement}
 use Rattle.orders.proofs.narrow_by.Tie as tie
@@ -34,7 +35,7 @@ narrow-side-requires c κs =
     let w = c .before .before .before .write-extreme .ensures in
     let long = c .before .before .before .write-extreme .kept .1 .1 .0 ∙ ap length (c .before .before .before .before .before .blank-text .ensures) ∙ length-replicate {A = ℕ} 250 0 in
     let few = s .pre .0 .right .few in
-    (whole-of (s .pre .0), (text-plain w long (small (c .before .before .before .before .before .before .before)), (text-short w, omega arith, s .pre .1 .1)))
+    (accepted-whole (s .pre .0), (text-plain w long (small (c .before .before .before .before .before .before .before)), (text-short w, omega arith, s .pre .1 .1)))
 
 same-length : tie.Need-same-length
 same-length c = search needs

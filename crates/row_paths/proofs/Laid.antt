@@ -10,10 +10,10 @@ use Rattle.shapes.specs.Lent.{shapeOf, blockAt}
 use Rattle.rests.specs.Walk.{slotAt}
 use Rattle.rows.specs.Row.{rowIn}
 use Rattle.rows.specs.Steps.{InTurn, Matched}
 use Rattle.row_paths.specs.Rows.{Zones}
 use Rattle.row_paths.proofs.Back.{turn-meets}
 use Rattle.row_paths.proofs.Lent.{in-turn-of, zones-at, mine-at}
-use Rattle.order_rows.specs.Laid.{Laid}
+use Rattle.row_paths.specs.Laid.{Laid}
 
 module _ {x z e s : List ℕ} (l : Laid x z e s) {k : ℕ} (d : k ≡ length x / 4) where
   pub laid-turn : InTurn (rowIn z) (rowIn e) k

@@ -1,0 +1,3 @@
+-- The laws of the pass from the ends that keeps its rows.
+pub mod Rows
+pub mod Pass

@@ -1,0 +1,2 @@
+-- The pass from the ends that keeps its rows.
+pub mod Back

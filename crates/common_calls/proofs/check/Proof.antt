@@ -1,0 +1,38 @@
+-- `common_calls::check`: the shapes, then the work, then the output. Assumes nothing.
+use mathlib.Core.Path.{refl, subst}
+use borrow.Author.Needs.{needs}
+use Rattle.pairs.specs.Pair.{PairAccepted, PairChecked}
+use Rattle.common_calls.specs.Common.ShowRefused.{shapes, short-work, short-output}
+use Rattle.common_calls.proofs.check.Statement.{statement}
+use Rattle.common_calls.proofs.check.Tie as tie
+
+check-pair-requires : tie.Need-check-pair-requires
+check-pair-requires c κs = search needs
+
+enum-known-r : tie.Need-enum-known-r
+enum-known-r c = search needs
+
+enum-told : tie.Need-enum-told
+enum-told c = search needs
+
+-- in the arm of two sound shapes
+accepted : (c : tie.After-enum-told) → PairAccepted (c .before .before .before .before .before .args .x .now) (c .before .before .before .before .before .args .y .now)
+accepted c =
+    let a = c .before .before .before .before .before .args in subst (PairChecked (a .x .now) (a .y .now)) (c .enum-told .given .1) (c .before .before .check-pair .ensures)
+
+returns : tie.Need-returns
+returns c = short-work (accepted (c .before)) (c .if1 .taken) refl
+
+returns-2 : tie.Need-returns-2
+returns-2 c = short-output (accepted (c .before .before)) (c .before .if1 .left) (c .if2 .taken) refl
+
+returns-3 : tie.Need-returns-3
+returns-3 c =
+    let a = c .before .before .before .before .before .before .args in
+    shapes (subst (PairChecked (a .x .now) (a .y .now)) (c .before .r .given .1) (c .before .before .before .check-pair .ensures))
+
+returns-4 : tie.Need-returns-4
+returns-4 c = (accepted (c .before .before), record { work = c .before .if1 .left; output = c .if2 .left })
+
+pub check-spec : {M : Type 1} → statement M
+check-spec = tie.close (tie.spec check-pair-requires enum-known-r enum-told returns returns-2 returns-3 returns-4)

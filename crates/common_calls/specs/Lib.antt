@@ -1,0 +1,2 @@
+-- What the call for the earliest common text promises.
+pub mod Common

@@ -1,0 +1,3 @@
+-- One character more of a common text.
+pub mod Next
+pub mod Code

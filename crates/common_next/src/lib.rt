@@ -1,0 +1,263 @@
+// One character more of a common text: which is the least that may come, and to which positions it leads.
+use sets::Set;
+ghost use mathlib.Core.Path.{_≡_};
+ghost use mathlib.Core.Bool.{true};
+ghost use Prim.Native.Nat.{ℕ, _+_, _<_};
+ghost use lib.ListN.{length};
+ghost use Rattle.bases.specs.Base.{Holds};
+ghost use Rattle.sets.specs.Set.{setOf, Exactly};
+ghost use Rattle.shapes.specs.Shape.{blockCount};
+ghost use Rattle.shapes.specs.Lent.{shapeOf};
+ghost use Rattle.rests.specs.Walk.{slotAt};
+ghost use Rattle.rows.specs.Row.{tableSize};
+ghost use Rattle.row_paths.specs.Laid.{Laid};
+ghost use Rattle.common_back.specs.Back.{EndRows};
+ghost use Rattle.common_next.specs.Next.{Ended, After, Free, Slotted};
+ghost use Rattle.common_next.specs.Code.{Sooner, WeighedBy, WeighedAll, Near, ChosenBy, ChosenTo};
+
+// Where the text so far leads in one shape, where its last character may stand in it, and where its runs may end.
+pub struct Front {
+    pub row: Set,
+    pub takes: Set,
+    pub free: Set,
+}
+
+// The least character that may come next, and the positions that may take part in it.
+pub struct Chosen {
+    pub code: usize,
+    pub kept: Set,
+}
+
+// The same while the positions of one block are weighed, with those of the other shape that were seen beside them.
+pub struct Weighed {
+    pub code: usize,
+    pub kept: Set,
+    pub seen: Set,
+}
+
+// Where the character may stand: as before if it is the same again.
+fn taking(shape: &[u64], slots: &[u64], takes: Set, again: bool, code: usize) -> Set
+    requires { ⌜ Slotted (now shape) (now slots) ⌝ }
+    requires { ⌜ code < 256 ⌝ }
+    requires { ⌜ (again ≡ true → Exactly (setOf takes) (λ q. Holds (slotAt (shapeOf (now shape)) q .base) code)) ⌝ }
+    ensures { λ r. ⌜ Exactly (setOf r) (λ q. Holds (slotAt (shapeOf (now (shape .entry))) q .base) code) ⌝ }
+{
+    if again {
+        return takes;
+    }
+    row_steps::matching(sets::single(code), shape, slots, shape.len() / shapes::SIZE)
+}
+
+// A row with what the ends of runs lead to from it; nothing more where no run may end.
+fn onward(shape: &[u64], zones: &[u64], ends: &[u64], slots: &[u64], free: Set, s: Set) -> Set
+    requires { ⌜ Laid (now shape) (now zones) (now ends) (now slots) ⌝ }
+    requires { ⌜ Free (now shape) (setOf free) ⌝ }
+    ensures { λ r. ⌜ Exactly (setOf r) (Ended (slotAt (shapeOf (now (shape .entry)))) (setOf s)) ⌝ }
+{
+    if sets::meets(s, free) {
+        return row_steps::forth(zones, ends, shape.len() / shapes::SIZE, s);
+    }
+    s
+}
+
+// One shape read one character on.
+pub fn read(
+    shape: &[u64],
+    zones: &[u64],
+    ends: &[u64],
+    slots: &[u64],
+    side: Front,
+    again: bool,
+    code: usize,
+) -> Front
+    requires { ⌜ Laid (now shape) (now zones) (now ends) (now slots) ⌝ }
+    requires { ⌜ (code < 256) × Free (now shape) (setOf (side .free)) ⌝ }
+    requires { ⌜ (again ≡ true → Exactly (setOf (side .takes)) (λ q. Holds (slotAt (shapeOf (now shape)) q .base) code)) ⌝ }
+    ensures { λ r. ⌜ Exactly (setOf (r .takes)) (λ q. Holds (slotAt (shapeOf (now (shape .entry))) q .base) code) ⌝ }
+    ensures { λ r. ⌜ Exactly (setOf (r .row)) (After (slotAt (shapeOf (now (shape .entry)))) (setOf (side .row)) code) ⌝ }
+    ensures { λ r. ⌜ Free (now (shape .entry)) (setOf (r .free)) ⌝ }
+{
+    let row = side.row;
+    let free = side.free;
+    let takes = taking(shape, slots, side.takes, again, code);
+    let taken = sets::up(sets::both(row, takes));
+    Front {
+        row: onward(shape, zones, ends, slots, free, taken),
+        takes: takes,
+        free: free,
+    }
+}
+
+// The least character that a base shares with the bases at some positions of y, or `code` where that comes sooner.
+fn sooner(code: usize, base: Set, row: Set, y: &[u64], slots: &[u64]) -> usize
+    requires { ⌜ Slotted (now y) (now slots) ⌝ }
+    ensures { λ r. ⌜ Sooner (slotAt (shapeOf (now (y .entry)))) (setOf base) (setOf row) code r ⌝ }
+{
+    if sets::is_empty(row) {
+        return code;
+    }
+    let shared = sets::both(
+        base,
+        row_steps::joined(row, y, slots, y.len() / shapes::SIZE),
+    );
+    if sets::is_empty(shared) {
+        return code;
+    }
+    let c = sets::first(shared);
+    if c < code {
+        return c;
+    }
+    code
+}
+
+// One position i, beside which both can take a character at the positions `here` of y.
+fn weigh(y: &[u64], slots: &[u64], base: Set, here: Set, i: usize, g: Weighed) -> Weighed
+    requires { ⌜ Slotted (now y) (now slots) ⌝ }
+    requires { ⌜ i < 256 ⌝ }
+    ensures { λ r. ⌜ WeighedBy (slotAt (shapeOf (now (y .entry)))) (setOf base) (setOf here) i g r ⌝ }
+{
+    let code = g.code;
+    let kept = g.kept;
+    let seen = g.seen;
+    if sets::is_empty(here) {
+        return Weighed {
+            code: code,
+            kept: sets::without(kept, sets::single(i)),
+            seen: seen,
+        };
+    }
+    Weighed {
+        code: sooner(code, base, sets::without(here, seen), y, slots),
+        kept: kept,
+        seen: sets::either(seen, here),
+    }
+}
+
+// Before the positions of a block are weighed, and after.
+fn begun(found: Chosen) -> Weighed
+    ensures { λ r. ⌜ (r .code ≡ found .code) × (setOf (r .kept) ≡ setOf (found .kept)) × (setOf (r .seen) ≡ 0) ⌝ }
+{
+    let kept = found.kept;
+    Weighed {
+        code: found.code,
+        kept: kept,
+        seen: sets::none(),
+    }
+}
+
+fn settled(g: Weighed) -> Chosen
+    ensures { λ r. ⌜ (r .code ≡ g .code) × (setOf (r .kept) ≡ setOf (g .kept)) ⌝ }
+{
+    let kept = g.kept;
+    Chosen {
+        code: g.code,
+        kept: kept,
+    }
+}
+
+// Positions with one base, weighed until none is left, or none can bring a character that comes sooner, since the base has none below `least` at hand.
+fn weigh_all(
+    y: &[u64],
+    slots: &[u64],
+    rows: &[u64],
+    base: Set,
+    least: usize,
+    beside: Set,
+    members: Set,
+    begun: Weighed,
+) -> Weighed
+    requires { ⌜ Slotted (now y) (now slots) × (length (now rows) ≡ tableSize) ⌝ }
+    requires { ⌜ ((i : ℕ) → Holds (setOf members) i → i < 250) ⌝ }
+    ensures { λ r. ⌜ WeighedAll (now (y .entry)) (now (rows .entry)) (setOf base) least (setOf beside) (setOf members) begun r ⌝ }
+{
+    let mut left = members;
+    let mut g = begun;
+    while !sets::is_empty(left) {
+        if g.code <= least {
+            return g;
+        }
+        let i = sets::first(left);
+        left = sets::without(left, sets::single(i));
+        let here = sets::both(sets::down(rows::row_at(rows, i + 1)), beside);
+        g = weigh(y, slots, base, here, i, g);
+    }
+    g
+}
+
+// Block a: its positions are weighed as far as need be; `near` has the characters at the positions `other` of y.
+fn weigh_block(
+    x: &[u64],
+    y: &[u64],
+    slots_x: &[u64],
+    slots_y: &[u64],
+    mines: &[u64],
+    rows: &[u64],
+    a: usize,
+    own: Set,
+    other: Set,
+    near: Set,
+    found: Chosen,
+) -> Chosen
+    requires { ⌜ Slotted (now x) (now «slots_x») × Slotted (now y) (now «slots_y») ⌝ }
+    requires { ⌜ EndRows (now x) (now y) (now mines) (now rows) ⌝ }
+    requires { ⌜ a < blockCount (now x) ⌝ }
+    requires { ⌜ Near (now y) (setOf other) (setOf near) ⌝ }
+    requires { ⌜ ChosenTo (now x) (now y) a (setOf own) (setOf other) found ⌝ }
+    ensures { λ r. ⌜ ChosenTo (now (x .entry)) (now (y .entry)) (a + 1) (setOf own) (setOf other) r ⌝ }
+{
+    let left = sets::both(own, rows::row_at(slots_x, a));
+    let b = shapes::block_at(x, a);
+    let base = b.base;
+    let usable = sets::both(base, near);
+    if sets::is_empty(usable) {
+        return found;
+    }
+    let least = sets::first(usable);
+    let beside = sets::both(other, rows::row_at(mines, a));
+    settled(weigh_all(y, slots_y, rows, base, least, beside, left, begun(found)))
+}
+
+// The characters at the positions `other` of y. Where there is at most one position to weigh they are not asked for, and all will do.
+fn nearby(own: Set, other: Set, y: &[u64], slots: &[u64]) -> Set
+    requires { ⌜ Slotted (now y) (now slots) ⌝ }
+    ensures { λ r. ⌜ Near (now (y .entry)) (setOf other) (setOf r) ⌝ }
+{
+    if sets::is_empty(own) {
+        return sets::below(256);
+    }
+    if sets::first(own) == sets::last(own) {
+        return sets::below(256);
+    }
+    row_steps::joined(other, y, slots, y.len() / shapes::SIZE)
+}
+
+// The least character that may come next where the text so far leads to the positions `own` of x and `other` of y; 256 if none may.
+pub fn next(
+    x: &[u64],
+    y: &[u64],
+    slots_x: &[u64],
+    slots_y: &[u64],
+    mines: &[u64],
+    rows: &[u64],
+    own: Set,
+    other: Set,
+) -> Chosen
+    requires { ⌜ Slotted (now x) (now «slots_x») × Slotted (now y) (now «slots_y») ⌝ }
+    requires { ⌜ EndRows (now x) (now y) (now mines) (now rows) ⌝ }
+    ensures { λ r. ⌜ ChosenBy (now (x .entry)) (now (y .entry)) (Holds (setOf own)) (setOf own) (setOf other) (r .code) (setOf (r .kept)) ⌝ }
+{
+    let n = x.len() / shapes::SIZE;
+    let near = nearby(own, other, y, slots_y);
+    let mut g = Chosen {
+        code: 256,
+        kept: own,
+    };
+    let mut a = 0;
+    while a < n {
+        if sets::meets(own, rows::row_at(slots_x, a)) {
+            g = weigh_block(x, y, slots_x, slots_y, mines, rows, a, own, other, near, g);
+        }
+        a += 1;
+    }
+    g
+}
