@@ -10,6 +10,7 @@ uint64_t wedgeotter_least(const uint64_t *shape, size_t n, uint8_t *out, size_t 
 uint64_t wedgeotter_sweep(const uint64_t *x, size_t n, const uint64_t *y, size_t m, uint64_t *out, size_t k);
 fitting wedgeotter_fits;
 narrowing wedgeotter_equal, wedgeotter_at_most, wedgeotter_before;
+joining wedgeotter_join;
 showing wedgeotter_common;
 running wedgeotter_book;
 filing wedgeotter_file;
@@ -17,6 +18,7 @@ filing wedgeotter_file;
 // The proved call, plain C with byte tables, plain C with rows of bits.
 #define SIDES 3
 static fitting *const fits_of[SIDES] = {wedgeotter_fits, plain_fits, rows_fits};
+static joining *const join_of[SIDES] = {wedgeotter_join, plain_join, rows_join};
 static showing *const common_of[SIDES] = {wedgeotter_common, plain_common, rows_common};
 static running *const book_of[SIDES] = {wedgeotter_book, plain_book, rows_book};
 static filing *const file_of[SIDES] = {wedgeotter_file, plain_file, rows_file};
@@ -174,7 +176,75 @@ static void make_pairs(enum pairing with, size_t blocks, uint64_t most) {
 
 #define PAIR shape[i], length[i], other[i], other_length[i], work, sizeof work
 
-// Narrowing of the pairs under each relation, in the mean over them; after the ratios to plain C that to our equality, and how many pairs are not none.
+// A join of the first shape of each pair, in the mean over the pairs, with two shapes in the place of the other, whose lengths add to its.
+static uint64_t second[SHAPES][128], third[SHAPES][128];
+static size_t second_length[SHAPES], third_length[SHAPES];
+
+#define TRIPLE shape[i], length[i], second[i], second_length[i], third[i], third_length[i], work, sizeof work
+
+// After the ratios to plain C that to our equality on the pairs, and how many of the joins and of the pairs are not none. If the two are the other shape cut in two, a
+// join allows what equality does.
+static void joins(const char *size, int cut) {
+    uint64_t out[2][3][128], a[128], b[128];
+    int some = 0, pairs = 0;
+    for (int i = 0; i < SHAPES; i++) {
+        memset(out[0], 0, sizeof out[0]), memset(a, 0, sizeof a), memset(b, 0, sizeof b);
+        uint64_t ours = wedgeotter_join(TRIPLE, out[0][0], 128, out[0][1], 128, out[0][2], 128), equal = wedgeotter_equal(PAIR, a, 128, b, 128);
+        for (int side = 1; side < SIDES; side++) {
+            memset(out[1], 0, sizeof out[1]);
+            same(ours == join_of[side](TRIPLE, out[1][0], 128, out[1][1], 128, out[1][2], 128) && memcmp(out[0], out[1], sizeof out[0]) == 0, "join");
+        }
+        some += ours, pairs += equal;
+        if (!cut) continue;
+        memcpy(out[0][1] + second_length[i], out[0][2], third_length[i] * sizeof *b);
+        same(ours == equal && memcmp(a, out[0][0], sizeof a) == 0 && memcmp(b, out[0][1], sizeof b) == 0, "join and equality");
+    }
+    static double best[SIDES][SHAPES], equal[SHAPES];
+    double means[SIDES];
+    memset(best, 0, sizeof best), memset(equal, 0, sizeof equal);
+    TURNS(3)
+        for (int k = 0; k < SHAPES; k++) {
+            for (int side = 0; side < SIDES; side++) TIME(best[side][k], k, 1, join_of[side](TRIPLE, out[0][0], 128, out[0][1], 128, out[0][2], 128));
+            TIME(equal[k], k, 1, wedgeotter_equal(PAIR, a, 128, b, 128));
+        }
+    for (int side = 0; side < SIDES; side++) means[side] = mean(best[side]);
+    show("join", size, SIDES, means);
+    printf(" %8.2f  %d of %d narrow, of the pairs %d\n", means[0] / mean(equal), some, SHAPES, pairs);
+}
+
+static void cut_joins(const char *size) {
+    for (int i = 0; i < SHAPES; i++) {
+        if (other_length[i] == 4) other_length[i] = 8, memset(other[i] + 4, 0, 32); // an empty block, so that there are two
+        second_length[i] = other_length[i] / 8 * 4;
+        third_length[i] = other_length[i] - second_length[i];
+        memcpy(second[i], other[i], second_length[i] * sizeof *second[i]);
+        memcpy(third[i], other[i] + second_length[i], third_length[i] * sizeof *third[i]);
+    }
+    joins(size, 1);
+}
+
+// The two have as many blocks each as the other shape.
+static void drawn_joins(const char *size, size_t blocks, uint64_t most, enum pairing with) {
+    make_pairs(with, blocks, most);
+    for (int i = 0; i < SHAPES; i++) {
+        second_length[i] = make(second[i], blocks, most / 2);
+        third_length[i] = make(third[i], blocks, most - most / 2);
+        if (with == LARGE) enlarge(second[i], second_length[i]), enlarge(third[i], third_length[i]);
+    }
+    joins(size, 0);
+}
+
+// The other shape has two blocks, so that each of the two has one.
+static void few_joins(const char *size, size_t blocks, uint64_t most) {
+    make_pairs(LARGE, blocks, most);
+    for (int i = 0; i < SHAPES; i++) {
+        other_length[i] = make(other[i], 2, most);
+        enlarge(other[i], other_length[i]);
+    }
+    cut_joins(size);
+}
+
+// Narrowing of the pairs under each relation, in the mean over them; after the ratios to plain C that to our equality, and how many pairs are not none. Then joins.
 static void narrows(const char *size, size_t blocks, uint64_t most, enum pairing with) {
     uint64_t a[128], b[128], c[128], d[128], some[KINDS] = {0};
     make_pairs(with, blocks, most);
@@ -201,6 +271,7 @@ static void narrows(const char *size, size_t blocks, uint64_t most, enum pairing
         show(kind_of[kind], size, SIDES, means[kind]);
         printf(" %8.2f  %d of %d narrow\n", means[kind][0] / means[0][0], (int)some[kind], SHAPES);
     }
+    cut_joins(size);
 }
 
 #define BLANK 255 // no character, so that bytes past a text show
@@ -253,31 +324,48 @@ static size_t make_around(uint64_t *s, size_t blocks, uint64_t most, const uint8
     return 4 * blocks;
 }
 
-// A random book of 8 texts and 16 rules of all kinds. The first four texts can all be one text, the others another after it, and the rules allow that;
-// it is drawn until its run takes four rounds or more.
-static uint64_t counts[8], entered[1024], rules[48], made;
+// A random book of 8 texts and 16 rules of all kinds, with joins or without. Without them the first four texts can all be one text, the others another after it; with
+// them the first two can be the first half of a line, the next four the line, the others its second half, each after those before. The rules allow that; the book is
+// drawn until its run takes four rounds or more.
+static uint64_t counts[8], entered[1024], rules[64], made;
 static size_t numbers;
 
-static void make_book(size_t blocks, uint64_t most) {
+static const int group_of[2][8] = {{0, 0, 0, 0, 1, 1, 1, 1}, {0, 0, 1, 1, 1, 1, 2, 2}};
+
+static int allowed(const int *group, uint64_t kind, uint64_t a, uint64_t b, uint64_t c) {
+    if (kind == 3) return group[a] == 1 && group[b] == 0 && group[c] == 2;
+    return a != b && (kind == 0 ? group[a] == group[b] : kind == 1 ? group[a] <= group[b] : group[a] < group[b]);
+}
+
+static void make_book(int joins, size_t blocks, uint64_t most) {
+    const size_t half = most / 2, cut = half / 2;
+    const struct {
+        const uint8_t *text;
+        size_t length;
+        uint64_t most;
+    } of[2][3] = {{{text[0], half, most}, {text[1], half, most}}, {{text[0], cut, half}, {text[0], half, most}, {text[0] + cut, half - cut, half}}};
+    const int *group = group_of[joins];
     uint64_t run[1024];
     do {
         for (int g = 0; g < 2; g++)
-            for (size_t i = 0; i < most / 2; i++) text[g][i] = 97 + (i ? rnd(LETTERS) : (uint64_t)g);
+            for (size_t i = 0; i < half; i++) text[g][i] = 97 + (i ? rnd(LETTERS) : (uint64_t)g);
+        if (joins) text[0][cut] = 98;
         numbers = 0;
         for (int k = 0; k < 8; k++) {
+            int g = group[k];
             counts[k] = blocks;
-            numbers += make_around(entered + numbers, blocks, most, text[k / 4], most / 2);
+            numbers += make_around(entered + numbers, blocks, of[joins][g].most, of[joins][g].text, of[joins][g].length);
         }
         for (int j = 0; j < 16; j++) {
-            uint64_t a, b, kind = j % 3;
-            do a = rnd(8), b = rnd(8);
-            while (a == b || (kind == 0 && a / 4 != b / 4) || (kind == 1 && a / 4 > b / 4) || (kind == 2 && a / 4 >= b / 4));
-            rules[3 * j] = kind;
-            rules[3 * j + 1] = a + 1;
-            rules[3 * j + 2] = b + 1;
+            uint64_t a, b, c = 0, kind = j % (joins ? 4 : 3);
+            do {
+                a = rnd(8), b = rnd(8);
+                if (kind == 3) c = rnd(8);
+            } while (!allowed(group, kind, a, b, c));
+            memcpy(rules + 4 * j, (uint64_t[]){kind, a + 1, b + 1, kind == 3 ? c + 1 : 0}, 32);
         }
         memcpy(run, entered, sizeof run);
-        made = plain_book(counts, 8, run, numbers, rules, 48, work, sizeof work);
+        made = plain_book(counts, 8, run, numbers, rules, 64, work, sizeof work);
     } while (made < 64 || made >= NONE);
 }
 
@@ -286,7 +374,7 @@ static uint64_t left[1024];
 // Each run begins with the blocks as entered.
 static uint64_t run_anew(running *run) {
     memcpy(left, entered, sizeof left);
-    return run(counts, 8, left, numbers, rules, 48, work, sizeof work);
+    return run(counts, 8, left, numbers, rules, 64, work, sizeof work);
 }
 
 static uint8_t file[16384], report[SIDES][16384];
@@ -298,7 +386,7 @@ static void same_files(size_t n) {
 }
 
 // The book as a file, also with one byte altered and cut short, which most often is refused.
-static void files(const char *size) {
+static void files(const char *what, const char *size) {
     char *const start = (char *)file, *to = start;
     to += sprintf(to, "TEXTS 8\n");
     for (int k = 0; k < 8; k++) to += sprintf(to, "%d\n", (int)counts[k]);
@@ -306,7 +394,7 @@ static void files(const char *size) {
     for (uint64_t *s = entered; s < entered + numbers; s += 4)
         to += sprintf(to, "%016llx%016llx %d %d\n", (unsigned long long)s[1], (unsigned long long)s[0], (int)s[2], (int)s[3]);
     to += sprintf(to, "RULES 16\n");
-    for (int j = 0; j < 48; j += 3) to += sprintf(to, "%d %d %d\n", (int)rules[j], (int)rules[j + 1], (int)rules[j + 2]);
+    for (int j = 0; j < 64; j += 4) to += sprintf(to, "%d %d %d %d\n", (int)rules[j], (int)rules[j + 1], (int)rules[j + 2], (int)rules[j + 3]);
     size_t n = to - start;
     same_files(n);
     for (int k = 0; k < 40; k++) {
@@ -320,28 +408,28 @@ static void files(const char *size) {
     double best[SIDES] = {0};
     TURNS(2)
         for (int side = 0; side < SIDES; side++) TIME(best[side], 0, 1, file_of[side](file, n, report[side], sizeof report[side]));
-    show("file", size, SIDES, best);
+    show(what, size, SIDES, best);
     printf("           %d applications, %d bytes\n", (int)made, (int)n);
 }
 
 // A book run by all sides.
-static void books(const char *size, size_t blocks, uint64_t most) {
+static void books(const char *size, int joins, size_t blocks, uint64_t most) {
     static uint64_t kept[1024];
-    make_book(blocks, most);
+    make_book(joins, blocks, most);
     uint64_t ours = run_anew(wedgeotter_book);
     memcpy(kept, left, sizeof kept);
     for (int side = 1; side < SIDES; side++) same(ours == run_anew(book_of[side]) && memcmp(kept, left, sizeof kept) == 0, "book");
     double best[SIDES] = {0};
     TURNS(2)
         for (int side = 0; side < SIDES; side++) TIME(best[side], 0, 1, run_anew(book_of[side]));
-    show("book", size, SIDES, best);
+    show(joins ? "join book" : "book", size, SIDES, best);
     printf("           %d applications\n", (int)made);
-    files(size);
+    files(joins ? "join file" : "file", size);
 }
 
 int main(void) {
     puts("Times per call, the least of several turns, in the mean over the inputs: ours is the proved call, bytes plain C with byte tables, rows plain C with rows of bits.");
-    puts("After each plain C the ratio of ours to it; for narrowing and common texts then that to our equality on the same pairs. Least text and sweep have one plain C.");
+    puts("After each plain C the ratio of ours to it; for narrowing, joins and common texts then that to our equality on the same pairs. Least text and sweep have one plain C.");
     printf("%-37s %12s %12s %6s %12s %6s %8s\n", "", "ours", "bytes", "ratio", "rows", "ratio", "to equal");
     bounds("8 blocks, 40 characters", 8, 40);
     bounds("32 blocks, 250 characters", 32, 250);
@@ -351,8 +439,8 @@ int main(void) {
     narrows("32 blocks, 250 characters", 32, 250, NEXT_ONE);
     narrows("8 blocks, 40, tight", 8, 40, TIGHT);
     narrows("32 blocks, 250, tight", 32, 250, TIGHT);
-    books("8 blocks, 40 characters", 8, 40);
-    books("32 blocks, 250 characters", 32, 250);
+    books("8 blocks, 40 characters", 0, 8, 40);
+    books("32 blocks, 250 characters", 0, 32, 250);
     commons("8 blocks, 40 characters", 8, 40, NEXT_ONE);
     commons("32 blocks, 250 characters", 32, 250, NEXT_ONE);
     commons("8 blocks, 40, tight", 8, 40, TIGHT);
@@ -361,5 +449,13 @@ int main(void) {
     commons("32 blocks, 250, fixed", 32, 250, FIXED);
     commons("8 blocks, 40, large bases", 8, 40, LARGE);
     commons("32 blocks, 250, large bases", 32, 250, LARGE);
+    drawn_joins("8 and 8 blocks, 40", 8, 40, NEXT_ONE);
+    drawn_joins("32 and 32 blocks, 250", 32, 250, NEXT_ONE);
+    drawn_joins("8 and 8, 40, large bases", 8, 40, LARGE);
+    drawn_joins("32 and 32, 250, large bases", 32, 250, LARGE);
+    few_joins("1 and 1, beside 8 blocks, 40", 8, 40);
+    few_joins("1 and 1, beside 32 blocks, 250", 32, 250);
+    books("8 blocks, 40 characters", 1, 8, 40);
+    books("32 blocks, 250 characters", 1, 32, 250);
     return 0;
 }

@@ -4,9 +4,14 @@
 
 static int holds(const uint64_t *b, uint8_t c) { return c < 128 && (b[c / 64] >> (c % 64) & 1); }
 
+static uint64_t uppers(const uint64_t *s, size_t n) {
+    uint64_t total = 0;
+    for (size_t i = 0; i < n; i += 4) total += s[i + 3];
+    return total;
+}
+
 // Shape checking as document 01 and document 02, order 1, ask, but for the length: 0; 2, 10 or 11 with the block; or 3.
 static uint64_t check_blocks(const uint64_t *s, size_t n, uint64_t *block) {
-    uint64_t total = 0;
     for (size_t i = 0; i < n; i += 4) {
         int empty = (s[i] | s[i + 1]) == 0;
         *block = i / 4 + 1;
@@ -15,13 +20,17 @@ static uint64_t check_blocks(const uint64_t *s, size_t n, uint64_t *block) {
         if (empty != (s[i + 3] == 0)) return 11;
     }
     *block = 0;
-    for (size_t i = 0; i < n; i += 4) total += s[i + 3];
-    return total <= 250 ? 0 : 3;
+    return uppers(s, n) <= 250 ? 0 : 3;
 }
 
 int plain_check(const uint64_t *s, size_t n) {
     uint64_t block;
     return n % 4 == 0 && n != 0 && n <= 128 && check_blocks(s, n, &block) == 0;
+}
+
+int plain_check_join(const uint64_t *x, size_t nx, const uint64_t *y, size_t ny, const uint64_t *z, size_t nz, size_t w, size_t a, size_t b, size_t c) {
+    if (!plain_check(x, nx) || !plain_check(y, ny) || !plain_check(z, nz)) return 0;
+    return uppers(y, ny) + uppers(z, nz) <= 250 && w >= 63001 && a >= nx && b >= ny && c >= nz;
 }
 
 uint64_t plain_fits(const uint64_t *s, size_t n, const uint8_t *t, size_t k) {
@@ -209,8 +218,7 @@ static inline void from_ends(const struct slot *xs, size_t n, const struct slot 
     }
 }
 
-uint64_t plain_equal(const uint64_t *x, size_t nx, const uint64_t *y, size_t ny, uint8_t *t, size_t w, uint64_t *ox, size_t a, uint64_t *oy, size_t b) {
-    if (!plain_check(x, nx) || !plain_check(y, ny) || w < 63001 || a < nx || b < ny) return 1000;
+static uint64_t equal(const uint64_t *x, size_t nx, const uint64_t *y, size_t ny, uint8_t *t, uint64_t *ox, uint64_t *oy) {
     static struct slot xs[251], ys[251];
     size_t n = lay(x, nx, xs), m = lay(y, ny, ys);
     from_ends(xs, n, ys, m, t);
@@ -231,6 +239,11 @@ uint64_t plain_equal(const uint64_t *x, size_t nx, const uint64_t *y, size_t ny,
     }
     memset(t, 0, 63001);
     return some;
+}
+
+uint64_t plain_equal(const uint64_t *x, size_t nx, const uint64_t *y, size_t ny, uint8_t *t, size_t w, uint64_t *ox, size_t a, uint64_t *oy, size_t b) {
+    if (!plain_check(x, nx) || !plain_check(y, ny) || w < 63001 || a < nx || b < ny) return 1000;
+    return equal(x, nx, y, ny, t, ox, oy);
 }
 
 // A set of positions, a byte to each, with the ends of the runs that may end in it.
@@ -382,11 +395,34 @@ uint64_t plain_before(const uint64_t *x, size_t nx, const uint64_t *y, size_t ny
     return order(1, x, nx, y, ny, t, w, ox, a, oy, b);
 }
 
-// The refusals of a book: 6, then those of the blocks text by text, 7 rule by rule, 4.
+uint64_t plain_by_kind(uint64_t kind, const uint64_t *x, size_t nx, const uint64_t *y, size_t ny, uint8_t *t, uint64_t *ox, uint64_t *oy) {
+    if (kind == 0) return equal(x, nx, y, ny, t, ox, oy);
+    return order(kind == 2, x, nx, y, ny, t, 63001, ox, nx, oy, ny);
+}
+
+// A join of checked shapes: equality of the blocks of Y with those of Z behind them, up to 64, and X.
+uint64_t run_join(narrowing_by_kind *narrow, const uint64_t *x, size_t nx, const uint64_t *y, size_t ny, const uint64_t *z, size_t nz, uint8_t *t, uint64_t *ox, uint64_t *oy, uint64_t *oz) {
+    uint64_t both[256], out[256];
+    memcpy(both, y, ny * sizeof *both);
+    memcpy(both + ny, z, nz * sizeof *both);
+    uint64_t some = narrow(0, both, ny + nz, x, nx, t, out, ox);
+    if (some) {
+        memcpy(oy, out, ny * sizeof *out);
+        memcpy(oz, out + ny, nz * sizeof *out);
+    }
+    return some;
+}
+
+uint64_t plain_join(const uint64_t *x, size_t nx, const uint64_t *y, size_t ny, const uint64_t *z, size_t nz, uint8_t *t, size_t w, uint64_t *ox, size_t a, uint64_t *oy, size_t b, uint64_t *oz, size_t c) {
+    if (!plain_check_join(x, nx, y, ny, z, nz, w, a, b, c)) return 1000;
+    return run_join(plain_by_kind, x, nx, y, ny, z, nz, t, ox, oy, oz);
+}
+
+// The refusals of a book: 6, then those of the blocks text by text, 7 and 12 rule by rule, 4.
 struct refusal plain_check_book(const uint64_t *counts, size_t texts, const uint64_t *blocks, size_t nb, const uint64_t *rules, size_t nr, size_t w) {
     struct refusal wrong = {6, 0, 0};
-    uint64_t sum = 0, block;
-    if (texts < 1 || texts > 8 || nr % 3 || nr > 48) return wrong;
+    uint64_t sum = 0, block, total[8];
+    if (texts < 1 || texts > 8 || nr % 4 || nr > 64) return wrong;
     for (size_t k = 0; k < texts; k++) {
         if (counts[k] < 1 || counts[k] > 32) return wrong;
         sum += counts[k];
@@ -395,32 +431,43 @@ struct refusal plain_check_book(const uint64_t *counts, size_t texts, const uint
     for (size_t k = 0; k < texts; blocks += 4 * counts[k++]) {
         uint64_t number = check_blocks(blocks, 4 * counts[k], &block);
         if (number) return (struct refusal){number, k + 1, block};
+        total[k] = uppers(blocks, 4 * counts[k]);
     }
-    for (size_t j = 0; j < nr; j += 3) {
-        uint64_t a = rules[j + 1], b = rules[j + 2];
-        if (rules[j] > 2 || a < 1 || a > texts || b < 1 || b > texts || a == b) return (struct refusal){7, 0, j / 3 + 1};
+    for (size_t j = 0; j < nr; j += 4) {
+        uint64_t kind = rules[j], a = rules[j + 1], b = rules[j + 2], c = rules[j + 3];
+        int right = kind <= 3 && a >= 1 && a <= texts && b >= 1 && b <= texts && a != b;
+        if (!right || (kind == 3 ? c < 1 || c > texts || c == a || c == b : c != 0)) return (struct refusal){7, 0, j / 4 + 1};
+        if (kind == 3 && total[b - 1] + total[c - 1] > 250) return (struct refusal){12, 0, j / 4 + 1};
     }
     return (struct refusal){w < 63001 ? 4 : 0, 0, 0};
 }
 
 // The rounds of a checked book, on a copy of the blocks.
 uint64_t run_rounds(narrowing_by_kind *narrow, const uint64_t *counts, size_t texts, uint64_t *blocks, size_t nb, const uint64_t *rules, size_t nr, uint8_t *t) {
-    uint64_t copy[1024], x[128], y[128], *at[9] = {copy}, made = 0;
+    uint64_t copy[1024], new[3][128], *at[9] = {copy}, made = 0;
     memcpy(copy, blocks, nb * sizeof *copy);
     memset(t, 0, 63001);
     for (size_t k = 0; k < texts; k++) at[k + 1] = at[k] + 4 * counts[k];
     for (int changed = 1; changed;) {
         changed = 0;
-        for (size_t j = 0; j < nr; j += 3) {
-            uint64_t *a = at[rules[j + 1] - 1], *b = at[rules[j + 2] - 1];
-            size_t n = 4 * counts[rules[j + 1] - 1], m = 4 * counts[rules[j + 2] - 1];
-            uint64_t some = narrow(rules[j], a, n, b, m, t, x, y);
+        for (size_t j = 0; j < nr; j += 4) {
+            int named = rules[j] == 3 ? 3 : 2;
+            uint64_t *old[3], some;
+            size_t n[3];
+            for (int k = 0; k < named; k++) {
+                uint64_t text = rules[j + 1 + k] - 1;
+                old[k] = at[text];
+                n[k] = 4 * counts[text];
+            }
+            if (named == 3) some = run_join(narrow, old[0], n[0], old[1], n[1], old[2], n[2], t, new[0], new[1], new[2]);
+            else some = narrow(rules[j], old[0], n[0], old[1], n[1], t, new[0], new[1]);
             made++;
             if (some != 1) return made | NONE;
-            if (memcmp(a, x, n * sizeof *x) == 0 && memcmp(b, y, m * sizeof *y) == 0) continue;
-            memcpy(a, x, n * sizeof *x);
-            memcpy(b, y, m * sizeof *y);
-            changed = 1;
+            for (int k = 0; k < named; k++) {
+                if (memcmp(old[k], new[k], n[k] * sizeof *copy) == 0) continue;
+                memcpy(old[k], new[k], n[k] * sizeof *copy);
+                changed = 1;
+            }
         }
     }
     memcpy(blocks, copy, nb * sizeof *copy);
@@ -430,11 +477,6 @@ uint64_t run_rounds(narrowing_by_kind *narrow, const uint64_t *counts, size_t te
 uint64_t run_book(narrowing_by_kind *narrow, const uint64_t *counts, size_t texts, uint64_t *blocks, size_t nb, const uint64_t *rules, size_t nr, uint8_t *t, size_t w) {
     if (plain_check_book(counts, texts, blocks, nb, rules, nr, w).number) return REFUSED;
     return run_rounds(narrow, counts, texts, blocks, nb, rules, nr, t);
-}
-
-uint64_t plain_by_kind(uint64_t kind, const uint64_t *x, size_t nx, const uint64_t *y, size_t ny, uint8_t *t, uint64_t *ox, uint64_t *oy) {
-    if (kind == 0) return plain_equal(x, nx, y, ny, t, 63001, ox, nx, oy, ny);
-    return order(kind == 2, x, nx, y, ny, t, 63001, ox, nx, oy, ny);
 }
 
 uint64_t plain_book(const uint64_t *counts, size_t texts, uint64_t *blocks, size_t nb, const uint64_t *rules, size_t nr, uint8_t *t, size_t w) {

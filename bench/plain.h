@@ -5,6 +5,7 @@
 
 typedef uint64_t fitting(const uint64_t *s, size_t n, const uint8_t *t, size_t k);
 typedef uint64_t narrowing(const uint64_t *x, size_t nx, const uint64_t *y, size_t ny, uint8_t *t, size_t w, uint64_t *ox, size_t a, uint64_t *oy, size_t b);
+typedef uint64_t joining(const uint64_t *x, size_t nx, const uint64_t *y, size_t ny, const uint64_t *z, size_t nz, uint8_t *t, size_t w, uint64_t *ox, size_t a, uint64_t *oy, size_t b, uint64_t *oz, size_t c);
 typedef uint64_t showing(const uint64_t *x, size_t nx, const uint64_t *y, size_t ny, uint8_t *t, size_t w, uint8_t *out, size_t k);
 typedef uint64_t running(const uint64_t *counts, size_t texts, uint64_t *blocks, size_t nb, const uint64_t *rules, size_t nr, uint8_t *t, size_t w);
 typedef uint64_t filing(const uint8_t *file, size_t n, uint8_t *report, size_t k);
@@ -17,12 +18,14 @@ uint64_t plain_least(const uint64_t *s, size_t n, uint8_t *out, size_t k);
 uint64_t plain_sweep(const uint64_t *x, size_t nx, const uint64_t *y, size_t ny, uint64_t *out, size_t k);
 fitting plain_fits, rows_fits;
 narrowing plain_equal, plain_at_most, plain_before, rows_equal, rows_at_most, rows_before;
+joining plain_join, rows_join;
 showing plain_common, rows_common; // the text's length, 1000 for a refusal, 2000 for none
 running plain_book, rows_book;
 filing plain_file, rows_file;
 
-// What both share: whether lent numbers are a shape, the extreme texts of one, a book and its file run with either's narrowing of checked shapes.
+// What both share: whether lent numbers are a shape or a join, the extreme texts of a shape, a join, a book and its file run with either's narrowing of checked shapes.
 int plain_check(const uint64_t *s, size_t n);
+int plain_check_join(const uint64_t *x, size_t nx, const uint64_t *y, size_t ny, const uint64_t *z, size_t nz, size_t w, size_t a, size_t b, size_t c);
 size_t plain_extreme(int up, const uint64_t *s, size_t n, uint8_t *out);
 
 // What a refusal tells; number 0 is none.
@@ -31,8 +34,10 @@ struct refusal {
 };
 struct refusal plain_check_book(const uint64_t *counts, size_t texts, const uint64_t *blocks, size_t nb, const uint64_t *rules, size_t nr, size_t w);
 
+// Kinds 0 to 2; under equality x may have up to 64 blocks.
 typedef uint64_t narrowing_by_kind(uint64_t kind, const uint64_t *x, size_t nx, const uint64_t *y, size_t ny, uint8_t *t, uint64_t *ox, uint64_t *oy);
 narrowing_by_kind plain_by_kind;
+uint64_t run_join(narrowing_by_kind *narrow, const uint64_t *x, size_t nx, const uint64_t *y, size_t ny, const uint64_t *z, size_t nz, uint8_t *t, uint64_t *ox, uint64_t *oy, uint64_t *oz);
 uint64_t run_rounds(narrowing_by_kind *narrow, const uint64_t *counts, size_t texts, uint64_t *blocks, size_t nb, const uint64_t *rules, size_t nr, uint8_t *t);
 uint64_t run_book(narrowing_by_kind *narrow, const uint64_t *counts, size_t texts, uint64_t *blocks, size_t nb, const uint64_t *rules, size_t nr, uint8_t *t, size_t w);
 uint64_t run_file(narrowing_by_kind *narrow, const uint8_t *file, size_t n, uint8_t *report, size_t k);

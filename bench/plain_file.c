@@ -47,8 +47,8 @@ static int book(struct reader *r, uint64_t *sizes, uint64_t *counts, uint64_t *b
     for (size_t i = 0; i < 4 * sizes[1]; i += 4)
         if (!hex(r, &blocks[i + 1]) || !hex(r, &blocks[i]) || !word(r, " ") || !decimal(r, ' ', &blocks[i + 2]) || !decimal(r, '\n', &blocks[i + 3])) return 0;
     if (!head(r, "RULES ", 16, &sizes[2])) return 0;
-    for (size_t i = 0; i < 3 * sizes[2]; i += 3)
-        if (!decimal(r, ' ', &rules[i]) || !decimal(r, ' ', &rules[i + 1]) || !decimal(r, '\n', &rules[i + 2])) return 0;
+    for (size_t i = 0; i < 4 * sizes[2]; i += 4)
+        if (!decimal(r, ' ', &rules[i]) || !decimal(r, ' ', &rules[i + 1]) || !decimal(r, ' ', &rules[i + 2]) || !decimal(r, '\n', &rules[i + 3])) return 0;
     return r->at == r->end;
 }
 
@@ -74,12 +74,12 @@ static uint8_t *put_hex(uint8_t *to, uint64_t n) {
 
 uint64_t run_file(narrowing_by_kind *narrow, const uint8_t *file, size_t n, uint8_t *report, size_t k) {
     static uint8_t work[63001];
-    static uint64_t counts[8], blocks[1024], rules[48];
+    static uint64_t counts[8], blocks[1024], rules[64];
     uint64_t sizes[3];
     struct reader r = {file, file + n};
     if (n > 16384 || !book(&r, sizes, counts, blocks, rules)) return REFUSED;
-    if (plain_check_book(counts, sizes[0], blocks, 4 * sizes[1], rules, 3 * sizes[2], sizeof work).number || k < 16384) return REFUSED;
-    uint64_t made = run_rounds(narrow, counts, sizes[0], blocks, 4 * sizes[1], rules, 3 * sizes[2], work);
+    if (plain_check_book(counts, sizes[0], blocks, 4 * sizes[1], rules, 4 * sizes[2], sizeof work).number || k < 16384) return REFUSED;
+    uint64_t made = run_rounds(narrow, counts, sizes[0], blocks, 4 * sizes[1], rules, 4 * sizes[2], work);
     if (made & NONE) return put_decimal(put(report, "NONE "), made ^ NONE, '\n') - report;
     uint8_t *to = put_decimal(put(report, "STABLE "), made, '\n');
     to = put_decimal(put(to, "TEXTS "), sizes[0], '\n');

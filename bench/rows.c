@@ -214,9 +214,10 @@ static void back(const uint64_t *x, size_t nx, const uint64_t *y, const struct l
     lengths(y, laid, moved, ended, oy);
 }
 
+// X may have up to 64 blocks.
 static uint64_t narrow_equal(const uint64_t *x, size_t nx, const uint64_t *y, size_t ny, uint64_t *ox, uint64_t *oy) {
     struct laid laid;
-    struct row mines[32], rows[251];
+    struct row mines[64], rows[251];
     lay(y, ny, &laid);
     if (!reach(x, nx, y, &laid, mines, rows)) return 0;
     back(x, nx, y, &laid, mines, rows, ox, oy);
@@ -439,6 +440,12 @@ uint64_t rows_at_most(const uint64_t *x, size_t nx, const uint64_t *y, size_t ny
 
 uint64_t rows_before(const uint64_t *x, size_t nx, const uint64_t *y, size_t ny, uint8_t *t, size_t w, uint64_t *ox, size_t a, uint64_t *oy, size_t b) {
     return narrow(2, x, nx, y, ny, t, w, ox, a, oy, b);
+}
+
+uint64_t rows_join(const uint64_t *x, size_t nx, const uint64_t *y, size_t ny, const uint64_t *z, size_t nz, uint8_t *t, size_t w, uint64_t *ox, size_t a, uint64_t *oy, size_t b, uint64_t *oz, size_t c) {
+    if (!plain_check_join(x, nx, y, ny, z, nz, w, a, b, c)) return 1000;
+    memset(t, 0, 63001);
+    return run_join(by_kind, x, nx, y, ny, z, nz, t, ox, oy, oz);
 }
 
 uint64_t rows_common(const uint64_t *x, size_t nx, const uint64_t *y, size_t ny, uint8_t *t, size_t w, uint8_t *out, size_t k) {

@@ -1,13 +1,15 @@
-"""Running a book of rules: the narrowing of `narrow` applied by document 01's runner."""
+"""Running a book of rules: the narrowing of two shapes and of three, applied by document 01's runner."""
 
 from itertools import permutations, product
 
 from making import (
     ONE_EACH, TWO_BAD, Dice, block, carved, counted, hexes, hold_lines_to_room, large_shape, lists_read, many_blocks,
-    numbers_read, random_filling, small_blocks, unsound_blocks, words_of, written,
+    numbers_read, random_filling, random_text, shared_out, small_blocks, unsound_blocks, words_of, written,
 )
-from narrow import AT_MOST, BEFORE, EQUAL, HOLDS, KINDS, LONGEST_WORK, narrowed, work_shown
-from shapes import MOST_BLOCKS, WORK_WANTED, Refused, agree, all_texts, fillings, shape_of
+from joins import JOIN, narrowed_join
+from narrow import LONGEST_WORK, TOGETHER, work_shown
+from pairs import AT_MOST, BEFORE, EQUAL, HOLDS, KINDS, narrowed
+from shapes import MOST_BLOCKS, WORK_WANTED, Refused, agree, all_texts, fillings, shape_of, too_long, total
 
 MOST_TEXTS = 8
 MOST_RULES = 16
@@ -20,25 +22,59 @@ FEW_FILLINGS = 300
 MOST_NUMBERS = 1200
 
 
+# Rules. They are four numbers, the fourth 0 except in a join.
+RULE_SIZE = 4
+
+
+def four(rule):
+    """The rule's four numbers; the fourth may be left out where it is 0."""
+    return (*rule, 0)[:RULE_SIZE]
+
+
+def named(rule):
+    """The numbers of the texts that a rule names, in the order in which it reads them."""
+    return rule[1:] if rule[0] == JOIN else rule[1:3]
+
+
+def wrong_rule(rule, texts):
+    """Whether the rule is wrong in a book of so many texts."""
+    kind, *_, fourth = rule
+    if kind not in (*KINDS, JOIN) or (kind != JOIN and fourth != 0):
+        return True
+    return any(not 1 <= text <= texts for text in named(rule)) or len({*named(rule)}) < len(named(rule))
+
+
+def holds(rule, texts):
+    """Whether the rule holds of the texts of a book."""
+    kind, (one, *others) = rule[0], (texts[number - 1] for number in named(rule))
+    return one == b"".join(others) if kind == JOIN else HOLDS[kind](one, *others)
+
+
+def applied(rule, shapes):
+    """The shapes that a rule names narrowed by it, or None for none."""
+    return narrowed_join(*shapes) if rule[0] == JOIN else narrowed(*shapes, rule[0])
+
+
 # Which books are refused.
 
 
 def book_of(counts, words, rules):
-    """The shapes and the rules, refused in document 01's order but for the work buffer."""
+    """The shapes and the rules, refused in the documents' order but for the work buffer."""
     if not 1 <= len(counts) <= MOST_TEXTS or not all(1 <= count <= MOST_BLOCKS for count in counts):
         raise Refused(6, 0, 0)
-    if len(words) != 4 * sum(counts) or len(rules) % 3 != 0 or len(rules) > 3 * MOST_RULES:
+    if len(words) != 4 * sum(counts) or len(rules) % RULE_SIZE != 0 or len(rules) > RULE_SIZE * MOST_RULES:
         raise Refused(6, 0, 0)
     shapes, at = [], 0
     for text, count in enumerate(counts, 1):
         shapes.append(shape_of(words[at : at + 4 * count], text))
         at += 4 * count
-    triples = [tuple(rules[at : at + 3]) for at in range(0, len(rules), 3)]
-    for place, (kind, one, other) in enumerate(triples, 1):
-        named = 1 <= one <= len(counts) and 1 <= other <= len(counts)
-        if kind not in KINDS or not named or one == other:
+    fours = [tuple(rules[at : at + RULE_SIZE]) for at in range(0, len(rules), RULE_SIZE)]
+    for place, rule in enumerate(fours, 1):
+        if wrong_rule(rule, len(counts)):
             raise Refused(7, 0, place)
-    return shapes, triples
+        if rule[0] == JOIN and too_long(*(shapes[number - 1] for number in rule[2:])):
+            raise Refused(12, 0, place)
+    return shapes, fours
 
 
 # The run.
@@ -49,13 +85,15 @@ def run(shapes, rules):
     now, applications, changed = list(shapes), 0, bool(rules)
     while changed:
         changed = False
-        for kind, one, other in rules:
+        for rule in rules:
             applications += 1
-            result = narrowed(now[one - 1], now[other - 1], kind)
+            entered = tuple(now[number - 1] for number in named(rule))
+            result = applied(rule, entered)
             if result is None:
                 return None, applications
-            changed = changed or result != (now[one - 1], now[other - 1])
-            now[one - 1], now[other - 1] = result
+            changed = changed or result != entered
+            for number, shape in zip(named(rule), result):
+                now[number - 1] = shape
     return now, applications
 
 
@@ -70,7 +108,7 @@ def hold_to_laws(shapes, rules, final):
         if fillings(shape) > FEW_FILLINGS or size > FEW_BOOKS:
             return
     for texts in product(*map(all_texts, shapes)):
-        if all(HOLDS[kind](texts[one - 1], texts[other - 1]) for kind, one, other in rules):
+        if all(holds(rule, texts) for rule in rules):
             if final is None or any(text not in all_texts(shape) for text, shape in zip(texts, final)):
                 raise AssertionError(f"texts lost: {shapes} {rules} {texts}")
 
@@ -84,13 +122,13 @@ def expected_line(line):
     counts, words, rules = lists_read(numbers_read(numbers), 3)
     accepted = False
     try:
-        shapes, triples = book_of(counts, words, rules)
+        shapes, fours = book_of(counts, words, rules)
         if work < WORK_WANTED:
             raise Refused(4, 0, 0)
         accepted = True
-        final, applications = run(shapes, triples)
-        if max(shape_total(shape) for shape in shapes) <= 40:
-            hold_to_laws(shapes, triples, final)
+        final, applications = run(shapes, fours)
+        if max(map(total, shapes)) <= 40:
+            hold_to_laws(shapes, fours, final)
         head = f"none {applications}" if final is None else f"stable {applications}"
         for at, shape in enumerate(final or ()):
             start = 4 * sum(counts[:at])
@@ -98,10 +136,6 @@ def expected_line(line):
     except Refused as refusal:
         head = refusal.line
     return " ".join([head, *hexes(words), work_shown(work, accepted)])
-
-
-def shape_total(shape):
-    return sum(upper for _, _, upper in shape)
 
 
 # Making cases.
@@ -117,15 +151,15 @@ class Cases:
         self.lines.append(" ".join(["B", *hexes(numbers)]))
 
     def book(self, texts, rules, work=WORK_WANTED):
-        """A case of texts, each a shape's numbers, and rules, each a triple."""
+        """A case of texts, each a shape's numbers, and rules, each as `four` takes it."""
         words = [word for text in texts for word in text]
-        self.lent([len(text) // 4 for text in texts], words, [number for rule in rules for number in rule], work)
+        self.lent([len(text) // 4 for text in texts], words, [n for rule in rules for n in four(rule)], work)
 
 
 def hold_to_example():
     """Document 01's book."""
     texts = [shape_of(written("{a,b,c}0..3")), shape_of(written("{b,c,d}2..2"))]
-    final, applications = run(texts, [(EQUAL, 1, 2)])
+    final, applications = run(texts, [four((EQUAL, 1, 2))])
     agree("document 01's book", texts, [words_of(shape) for shape in final], [written("{b,c}2..2")] * 2)
     agree("document 01's book", texts, applications, 2)
 
@@ -172,6 +206,104 @@ def round_cases(cases):
         texts = [block((0, 1, 2), 0, 12 + text) + block([text % 3], 1, 4) for text in range(count)]
         for rules in (web, web[::-1], web[::2] + web[1::2], web + [(EQUAL, count, 1)]):
             cases.book(texts, rules)
+
+
+SERIAL = ["{0..9,A..Z,-}0..12", "{A..Z}0..6 {0..9}0..6", "{A..Z}2..3", "{1..9}1..1 {0..9}3..4", "-1..1 {A..F}1..1"]
+
+
+def every_order(cases, texts, rules):
+    """The book with its rules in several orders."""
+    for order in permutations(rules) if len(rules) < 3 else (rules, rules[::-1], rules[1:] + rules[:1]):
+        cases.book(texts, list(order))
+
+
+def join_cases(cases):
+    """Joins alone, in chains, with texts in common, and beside orders and equalities."""
+    # A line of three fields by two joins, either two of them first; one of four by three joins.
+    texts = [written(text) for text in SERIAL]
+    every_order(cases, texts, [(JOIN, 1, 2, 5), (JOIN, 2, 3, 4)])
+    worn = written("W1..1 {0,O,Q}1..1 {8,B}1..1 {1,7}1..1 00..1 {3,8}2..2 {-,1}0..1 {A,4}0..1")
+    every_order(cases, [worn, *texts[1:]], [(JOIN, 1, 2, 5), (JOIN, 2, 3, 4)])
+    inner = written("{0..9}0..9 -0..1 {A..Z}0..3")
+    every_order(cases, [worn, inner, *texts[2:]], [(JOIN, 1, 3, 2), (JOIN, 2, 4, 5)])
+    fields = ["{a..d}4..9", "{a..d}0..9", "{a..d}0..5", "a1..2", "{a,b}1..2", "c1..1 b0..1", "d0..2"]
+    fields = [written(field) for field in fields]
+    every_order(cases, fields, [(JOIN, 1, 2, 3), (JOIN, 2, 4, 5), (JOIN, 3, 6, 7)])
+    every_order(cases, fields, [(JOIN, 1, 4, 2), (JOIN, 2, 5, 3), (JOIN, 3, 6, 7)])
+    # One whole cut in two ways; one field in two lines; a whole that is a field of the next; two fields in both orders.
+    texts = [written(text) for text in ("{a,b}0..4", "a0..2", "{a,b}0..3", "{a,b}1..2", "b0..1 a0..1")]
+    for rules in (
+        [(JOIN, 1, 2, 3), (JOIN, 1, 4, 5)],
+        [(JOIN, 1, 2, 3), (JOIN, 1, 3, 2)],
+        [(JOIN, 1, 2, 3), (JOIN, 4, 2, 5)],
+        [(JOIN, 1, 2, 3), (JOIN, 4, 5, 3)],
+        [(JOIN, 1, 3, 4), (JOIN, 3, 2, 5)],
+        [(JOIN, 1, 4, 3), (JOIN, 3, 2, 5)],
+        [(JOIN, 1, 2, 3), (JOIN, 2, 4, 5), (JOIN, 3, 5, 4)],
+        # Beside the other kinds.
+        [(JOIN, 1, 2, 3), (EQUAL, 2, 3)],
+        [(JOIN, 1, 2, 3), (EQUAL, 1, 3)],
+        [(JOIN, 1, 2, 3), (BEFORE, 1, 2)],
+        [(JOIN, 1, 2, 3), (BEFORE, 2, 1), (AT_MOST, 3, 2)],
+        [(JOIN, 1, 2, 4), (EQUAL, 3, 5), (BEFORE, 1, 3)],
+        [(JOIN, 1, 4, 5), (AT_MOST, 1, 2), (EQUAL, 4, 3)],
+        [(JOIN, 1, 2, 3), (JOIN, 1, 4, 5), (EQUAL, 2, 4), (AT_MOST, 5, 3)],
+    ):
+        every_order(cases, texts, rules)
+    # Joins that go round: each round takes a little, until nothing is left or a text is empty.
+    for most in (2, 5, 12):
+        text, more = block([0], 0, most), block([0], 1, most)
+        cases.book([text] * 3, [(JOIN, 1, 2, 3), (JOIN, 2, 1, 3)])
+        cases.book([text, text, more], [(JOIN, 1, 2, 3), (JOIN, 2, 1, 3)])
+        cases.book([text, text, more], [(JOIN, 2, 3, 1), (JOIN, 1, 3, 2)])
+        cases.book([text, more, more], [(JOIN, 1, 2, 3), (EQUAL, 1, 2)])
+        cases.book([more] * 4, [(JOIN, 1, 2, 3), (JOIN, 2, 3, 4), (EQUAL, 1, 4)])
+        cases.book([text, text, more, text], [(BEFORE, 4, 2), (JOIN, 1, 2, 3), (AT_MOST, 1, 4)])
+        cases.book([block([0, 1], 0, most)] * 3, [(JOIN, 1, 2, 3), (JOIN, 2, 3, 1), (JOIN, 3, 1, 2)])
+    ring = [(JOIN, text + 1, (text + 1) % 8 + 1, (text + 3) % 8 + 1) for text in range(8)]
+    cases.book([block([0], 0, 9)] * 8, ring * 2)
+    for work in (0, WORK_WANTED - 1, WORK_WANTED, WORK_WANTED + 1, LONGEST_WORK):
+        cases.book([written("{a,b}0..3"), written("a1..1"), written("b0..2")], [(JOIN, 1, 2, 3)], work)
+        cases.book([written("a1..1 b1..1"), written("b1..1"), written("a1..1")], [(JOIN, 1, 2, 3)], work)
+
+
+def join_book(dice, tiny=False):
+    """Texts over one alphabet, some of them two others joined; in most books all rules are kept by some texts."""
+    codes = dice.pick(((0, 1), (64, 65), (0, 64)) if tiny else ((0, 1), (0, 1, 2), (0, 63, 64, 127)))
+    kept = dice.below(5) > 0
+    length, joins = (1, (1, 1, 2)) if tiny else (3, (1, 2, 2, 3, 4))
+    stems = [random_text(dice, codes, dice.between(0, length)) for _ in range(2 if tiny else dice.between(2, 4))]
+    rules = []
+    for _ in range(dice.pick(joins)):
+        front, back = two_of(dice, len(stems))
+        stems.append(stems[front - 1] + stems[back - 1])
+        rules.append((JOIN, len(stems), front, back))
+    for _ in range(dice.below(3)):
+        one, other = two_of(dice, len(stems))
+        kinds = [kind for kind in KINDS if HOLDS[kind](stems[one - 1], stems[other - 1])]
+        rules.append((dice.pick(kinds if kept and kinds else KINDS), one, other))
+    # The texts are numbered by chance.
+    places = shuffled(dice, range(len(stems)))
+    texts = [[]] * len(stems)
+    for place, stem in zip(places, stems):
+        text = carved(dice, codes, stem, dice.between(1, 2 if tiny else 3)) if kept else small_blocks(dice, codes)
+        texts[place] = text[:8] if tiny else text
+    return texts, shuffled(dice, [(rule[0], *(places[text - 1] + 1 for text in rule[1:])) for rule in rules])
+
+
+def two_of(dice, count):
+    """Two different numbers from 1 to the count."""
+    one = dice.between(1, count)
+    return one, (one - 1 + dice.between(1, count - 1)) % count + 1
+
+
+def random_join_cases(cases):
+    dice = Dice(33)
+    for number in range(240):
+        texts, rules = join_book(dice, number % 2 == 0)
+        cases.book(texts, rules)
+        if number % 4 == 1 and len(rules) > 1:
+            cases.book(texts, shuffled(dice, rules))
 
 
 def random_book(dice):
@@ -246,6 +378,18 @@ def large_cases(cases):
     cases.book(full, [])
     cases.book(full, [(BEFORE, number, number + 1) for number in range(1, 3)])
     cases.book([many_blocks(32, 250)] * 2, [(BEFORE, 1, 2), (AT_MOST, 1, 2)])
+    # Joins of the most blocks, and of all texts at once.
+    cases.book([many_blocks(32, 250), many_blocks(32, 125), many_blocks(32, 125)], [(JOIN, 1, 2, 3)])
+    threes = [block([number % 2], 0, 3) * MOST_BLOCKS for number in range(MOST_TEXTS)]
+    cases.book(threes, [(JOIN, 1, 3, 5), (JOIN, 2, 4, 6), (BEFORE, 1, 2)])
+    cases.book(threes, [(JOIN, 1, 2, 3), (JOIN, 8, 7, 6)])
+    for _ in range(2):
+        codes = dice.pick((b"AB", b"ABC"))
+        front, back = (shared_out(dice, codes, dice.pick((8, 32)), 125) for _ in range(2))
+        text = random_filling(dice, shape_of(front)) + random_filling(dice, shape_of(back))
+        texts = [front, carved(dice, codes, text, 32), back, carved(dice, codes, text, 8)]
+        cases.book(texts, [(JOIN, 2, 1, 3), (EQUAL, 2, 4)])
+        cases.book(texts, [(EQUAL, 2, 4), (AT_MOST, 2, 4), (JOIN, 2, 1, 3), (JOIN, 4, 1, 3)])
 
 
 FAR = (2**8, 2**32, 2**62, 2**63, 2**64 - 1)
@@ -275,16 +419,21 @@ def count_cases(cases):
         wrong.append(([1, 1], (good * 3)[:length], []))
     wrong.append(([32] * 8, good * 257, []))
     wrong.append(([32] * 8, good * 255, []))
-    for length in (1, 2, 4, 5, 47, 49, 50, 51, 54):
-        wrong.append(([1, 1], good * 2, ([0, 1, 2] * 18)[:length]))
+    for length in (1, 2, 3, 5, 6, 7, 9, 15, 18, 51, 54, 62, 63, 65, 66, 67, 68, 72):
+        wrong.append(([1, 1], good * 2, ([0, 1, 2, 0] * 18)[:length]))
+    # Triples, as rules once were: of 3, 6, 9 and 51 numbers they are no fours, of 12 and 48 they are other rules.
+    for count in (1, 2, 3, 4, 16, 17):
+        wrong.append(([1, 1], good * 2, [0, 1, 2] * count))
+        wrong.append(([1, 1, 1], good * 3, [3, 1, 2] * count))
     for counts, words, rules in wrong:
         cases.lent(counts, words, rules)
         if len(words) < 100:
-            cases.lent(counts, bad + words[4:] if len(words) >= 4 else words, rules or [3, 0, 0], WORK_WANTED - 1)
+            cases.lent(counts, bad + words[4:] if len(words) >= 4 else words, rules or [3, 0, 0, 0], WORK_WANTED - 1)
     # Right ones at the limits, so that it is seen what is refused.
-    cases.lent([1] * 8, good * 8, [0, 1, 2] * 16)
+    cases.lent([1] * 8, good * 8, [0, 1, 2, 0] * 16)
+    cases.lent([1] * 8, good * 8, [3, 1, 2, 3] * 16)
     cases.lent([32], good * 32, [])
-    cases.lent([32, 1, 32], good * 65, [0, 1, 2])
+    cases.lent([32, 1, 32], good * 65, [0, 1, 2, 0])
 
 
 def shape_cases(cases):
@@ -352,6 +501,69 @@ def rule_cases(cases):
     cases.book(texts, [good], 0)
 
 
+def wrong_joins():
+    """Joins and other rules that are wrong by their fourth number, or by a join's texts, in a book of four texts."""
+    joins = [(JOIN, *texts) for texts in product(range(4), repeat=3) if 0 in texts or len({*texts}) < 3]
+    yield from (rule for at, rule in enumerate(joins) if at % 3 == 0)
+    yield from ((JOIN, 5, 1, 2), (JOIN, 1, 5, 2), (JOIN, 1, 2, 5), (JOIN, 1, 2, 9), (JOIN, 5, 5, 5))
+    for far in FAR:
+        yield from ((JOIN, 1, 2, far), (JOIN, 1, far, 2), (JOIN, far, 1, 2), (JOIN, far, far, far))
+        yield from ((kind, 1, 2, far) for kind in KINDS)
+    # What a narrower number would take for 3, or for a text.
+    for far in FAR[:-1]:
+        yield from ((JOIN, 1, 2, far + 3), (JOIN, 1, far + 2, 3), (far + 3, 1, 2, 3), (far + 3, 1, 2, 0))
+    for kind in (*KINDS, 4, 5, 6):
+        yield from ((kind, 1, 2, fourth) for fourth in (1, 2, 3, 4, 5, 9))
+    yield from ((4, 1, 2, 0), (4, 1, 2, 3), (5, 1, 2, 0), (2**64 - 1, 2**64 - 1, 2**64 - 1, 2**64 - 1))
+
+
+def join_rule_cases(cases):
+    """Wrong joins (7), and texts too long to be joined (12), which is tried right after 7 for each rule."""
+    texts = [block([0], 0, 3), block([0, 1], 1, 2), block([1], 0, 4), block([0], 0, 1)]
+    good = (JOIN, 1, 2, 3)
+    for at, rule in enumerate(wrong_joins()):
+        cases.book(texts, [rule], WORK_WANTED if at % 2 else 0)
+        if at % 3 == 0:
+            cases.book(texts, [good] * (at % 15) + [(AT_MOST, 1, 2), rule])
+    cases.book(texts[:2], [(JOIN, 1, 2, 3)])
+    cases.book(texts[:1], [(JOIN, 1, 1, 1)])
+    small, bad, heavy = block([0], 0, 3), block([0], 2, 1), block([0], 0, 200)
+    for front, back in TOGETHER:
+        book = [small, block([0], 0, front), block([0, 1], 0, back)]
+        cases.book(book, [good])
+        cases.book(book, [(JOIN, 1, 3, 2)], WORK_WANTED - 1)
+        # The whole may be as long as it likes, and other kinds do not ask.
+        cases.book(book, [(EQUAL, 2, 3), (BEFORE, 1, 2)])
+        cases.book(book, [(JOIN, 2, 1, 1)])
+    cases.book([block([0], 0, 250), small, small], [good])
+    cases.book([small, block([0], 0, 250), block((), 0, 0)], [good])
+    cases.book([small, many_blocks(32, 125), many_blocks(4, 126)], [good])
+    # The first rule decides, whether it is wrong or too long; a rule that is both is wrong.
+    long = [small, block([0], 0, 126), block([0], 0, 125), small]
+    over, wrong = good, (JOIN, 1, 2, 9)
+    for rules in (
+        [over, wrong], [wrong, over], [over, over], [(JOIN, 1, 4, 2), over, wrong], [(EQUAL, 1, 2, 3)],
+        [(JOIN, 2, 2, 3)], [(JOIN, 2, 3, 3)], [(4, 1, 2, 3)], [(JOIN, 0, 2, 3), over], [(JOIN, 5, 2, 3)],
+        [(EQUAL, 1, 1), over], [over, (EQUAL, 1, 1)], [(JOIN, 4, 1, 2), (JOIN, 4, 3, 2), (7, 7, 7, 7)],
+    ):
+        for work in (WORK_WANTED, WORK_WANTED - 1):
+            cases.book(long, rules, work)
+    for place in range(1, 17):
+        cases.book(long, [(AT_MOST, 1, 4)] * (place - 1) + [over] + [wrong] * (16 - place), place % 2 * WORK_WANTED)
+    # It is about the shapes entered: that a rule would make them short, or says none, does not help.
+    cases.book(long, [(EQUAL, 2, 4), over])
+    cases.book([*long[:3], block([1], 1, 1)], [(EQUAL, 2, 4), over])
+    cases.book([block([0], 0, 250), *long[1:]], [(BEFORE, 1, 4), (JOIN, 1, 2, 3)])
+    # Counts, blocks and totals come before it.
+    cases.book([*long[:3], bad], [over])
+    cases.book([*long[:3], heavy * 2], [over], 0)
+    cases.book([small, block([0], 0, 2**64 - 1), block([0], 0, 2)], [good])
+    cases.book([small, heavy * 2, block([0], 0, 2)], [good])
+    cases.lent([1] * 4, [word for text in long for word in text], [3, 1, 2, 3] * 17)
+    cases.lent([1] * 4, [word for text in long for word in text], [3, 1, 2, 3, 3])
+    cases.lent([1] * 4, [word for text in long for word in text], [3, 1, 2, 3] * 16)
+
+
 def all_cases():
     hold_to_example()
     cases = Cases()
@@ -361,6 +573,9 @@ def all_cases():
     shape_cases(cases)
     rule_cases(cases)
     random_cases(cases)
+    join_cases(cases)
+    join_rule_cases(cases)
+    random_join_cases(cases)
     large_cases(cases)
     return cases.lines
 

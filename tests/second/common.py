@@ -13,7 +13,8 @@ from making import (
     Dice, block, carved, counted, edge_pairs, hexes, hold_lines_to_room, large_pair, lists_read, numbers_read,
     refused_pairs, small_blocks, small_pair, written,
 )
-from narrow import EQUAL, TABLE, narrowed, work_shown
+from narrow import TABLE, work_shown
+from pairs import EQUAL, narrowed
 from shapes import (
     FEW_FILLINGS, MOST_BLOCKS, MOST_CHARACTERS, WORK_WANTED, Refused, agree, all_texts, fillings, pair_of, shape_of,
 )

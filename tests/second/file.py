@@ -7,10 +7,17 @@ and reads the book, and a regular expression for each kind of line.
 import re
 from pathlib import Path
 
-from book import MOST_RULES, MOST_TEXTS, book_of, hold_to_laws, random_book, run, shape_total, shuffled, wide_book
-from making import ONE_EACH, TWO_BAD, Dice, block, many_blocks, unsound_blocks, words_of, written
-from narrow import AT_MOST, BEFORE, EQUAL, KINDS
-from shapes import MOST_BLOCKS, Refused, agree
+from book import (
+    MOST_RULES, MOST_TEXTS, RULE_SIZE, SERIAL, book_of, four, hold_to_laws, join_book, random_book, run, shuffled,
+    wide_book,
+)
+from joins import JOIN
+from making import (
+    LARGE_INPUT_ROOM, ONE_EACH, TWO_BAD, Dice, block, many_blocks, unsound_blocks, words_of, written,
+)
+from narrow import TOGETHER
+from pairs import AT_MOST, BEFORE, EQUAL, KINDS
+from shapes import MOST_BLOCKS, Refused, agree, total
 
 MOST_BYTES = 16_384
 REPORT_WANTED = 16_384
@@ -18,11 +25,10 @@ MOST_NUMBER = 65_535
 MOST_ALL_BLOCKS = 256
 
 # What the program has room for.
-INPUT_ROOM = 900_000
 LONGEST_FILE = 16_400
 LONGEST_REPORT = 16_500
 
-# Document 01's book and what it prints.
+# Document 01's book, its rule with the fourth number of document 02, and what it prints.
 EXAMPLE = b"""\
 TEXTS 2
 1
@@ -31,7 +37,7 @@ BLOCKS 2
 0000000e000000000000000000000000 0 3
 0000001c000000000000000000000000 2 2
 RULES 1
-0 1 2
+0 1 2 0
 """
 EXAMPLE_REPORT = b"""\
 STABLE 2
@@ -66,8 +72,8 @@ def texts_and_blocks(counts, words):
 
 def book_file(counts, words, rules):
     """The file of a book, its rules as one row of numbers."""
-    triples = [rules[at : at + 3] for at in range(0, len(rules), 3)]
-    lines = [f"RULES {len(triples)}\n", *map(numbers_line, triples)]
+    fours = [rules[at : at + RULE_SIZE] for at in range(0, len(rules), RULE_SIZE)]
+    lines = [f"RULES {len(fours)}\n", *map(numbers_line, fours)]
     return (texts_and_blocks(counts, words) + "".join(lines)).encode()
 
 
@@ -144,11 +150,11 @@ class Scanner:
         return words
 
     def rule(self):
-        kind = self.number(MOST_NUMBER)
-        self.word(b" ")
-        one = self.number(MOST_NUMBER)
-        self.word(b" ")
-        return [kind, one, self.number(MOST_NUMBER)]
+        numbers = [self.number(MOST_NUMBER)]
+        while len(numbers) < RULE_SIZE:
+            self.word(b" ")
+            numbers.append(self.number(MOST_NUMBER))
+        return numbers
 
     def book(self):
         counts = self.section(b"TEXTS", MOST_TEXTS, self.text)
@@ -170,7 +176,7 @@ SECTIONS = (
         rb"[0-9a-f]{32} %s %s" % (NUMBER, NUMBER),
         b"0" * 32 + b" 0 0",
     ),
-    (b"RULES", rb"RULES ([0-9]|1[0-6])", rb"%s %s %s" % (NUMBER, NUMBER, NUMBER), b"0 0 0"),
+    (b"RULES", rb"RULES ([0-9]|1[0-6])", rb"%s %s %s %s" % (NUMBER, NUMBER, NUMBER, NUMBER), b"0 0 0 0"),
 )
 
 
@@ -228,12 +234,12 @@ def book_read(file):
 def run_file(file, room):
     """The report of a file's book, for an output of so many bytes. Refusals in their order: 9, 8, the book's, then 5."""
     counts, words, rules = book_read(file)
-    shapes, triples = book_of(counts, words, rules)
+    shapes, fours = book_of(counts, words, rules)
     if room < REPORT_WANTED:
         raise Refused(5, 0, 0)
-    final, applications = run(shapes, triples)
-    if max(shape_total(shape) for shape in shapes) <= 40:
-        hold_to_laws(shapes, triples, final)
+    final, applications = run(shapes, fours)
+    if max(map(total, shapes)) <= 40:
+        hold_to_laws(shapes, fours, final)
     if final is None:
         return b"NONE %d\n" % applications
     words = [word for shape in final for word in words_of(shape)]
@@ -291,13 +297,13 @@ class Cases:
         self.file(book_file(counts, words, rules))
 
     def book(self, texts, rules):
-        """A case of texts, each a shape's numbers, and rules, each a triple."""
+        """A case of texts, each a shape's numbers, and rules, each as `four` takes it."""
         self.file(file_of(texts, rules))
 
 
 def file_of(texts, rules):
     words = [word for text in texts for word in text]
-    return book_file([len(text) // 4 for text in texts], words, [number for rule in rules for number in rule])
+    return book_file([len(text) // 4 for text in texts], words, [number for rule in rules for number in four(rule)])
 
 
 GOOD = block(b"ab", 0, 3)
@@ -378,7 +384,7 @@ def count_cases(cases):
     """Counts that are wrong (6), also where blocks and rules are wrong too."""
     cases.lent([], [], [])
     cases.lent([], GOOD, [])
-    cases.lent([], BAD, [3, 0, 0])
+    cases.lent([], BAD, [3, 0, 0, 0])
     for texts in range(1, MOST_TEXTS + 1):
         for count in (0, 33, 34, 256, MOST_NUMBER):
             counts = [1] * MOST_TEXTS
@@ -390,15 +396,16 @@ def count_cases(cases):
         cases.lent(counts, [], [])
     cases.lent([33], GOOD * 33, [])
     cases.lent([32, 32], GOOD * 63, [])
-    cases.lent([2], BAD, [3, 0, 0])
-    cases.lent([0], [], [0, 1, 1])
+    cases.lent([2], BAD, [3, 0, 0, 0])
+    cases.lent([0], [], [0, 1, 1, 0])
     cases.lent([0, 1], GOOD, [])
     cases.lent([2, 0], GOOD * 2, [])
     cases.lent([65_535, 1], GOOD, [])
     # Right ones at the limits.
-    cases.lent([1] * 8, GOOD * 8, [0, 1, 2] * 16)
+    cases.lent([1] * 8, GOOD * 8, [0, 1, 2, 0] * 16)
+    cases.lent([1] * 8, GOOD * 8, [3, 1, 2, 3] * 16)
     cases.lent([32], block(b"a", 0, 1) * 32, [])
-    cases.lent([31, 1], block(b"a", 0, 1) * 32, [1, 2, 1])
+    cases.lent([31, 1], block(b"a", 0, 1) * 32, [1, 2, 1, 0])
 
 
 def shape_cases(cases):
@@ -473,6 +480,63 @@ def rule_cases(cases):
     cases.book([GOOD], [(EQUAL, 1, 1)])
 
 
+# A book with joins, stable in its second round.
+JOINED = file_of(
+    [written("{a,b}0..3"), written("a1..1"), written("b0..2")], [(JOIN, 1, 2, 3), (AT_MOST, 2, 1), (JOIN, 1, 2, 3)]
+)
+
+WRONG_JOINS = (
+    (JOIN, 1, 2, 0), (JOIN, 1, 2, 4), (JOIN, 1, 2, 9), (JOIN, 1, 2, MOST_NUMBER), (JOIN, 1, 2, 259), (JOIN, 1, 2, 1),
+    (JOIN, 1, 2, 2), (JOIN, 1, 1, 2), (JOIN, 3, 3, 3), (JOIN, 0, 2, 3), (JOIN, 1, 0, 3), (JOIN, 4, 2, 3),
+    (JOIN, 1, 4, 3), (EQUAL, 1, 2, 1), (EQUAL, 1, 2, 3), (AT_MOST, 1, 2, 3), (BEFORE, 1, 2, 3), (EQUAL, 1, 2, 256),
+    (BEFORE, 1, 2, MOST_NUMBER), (4, 1, 2, 3), (4, 1, 2, 0), (259, 1, 2, 3), (MOST_NUMBER, 1, 2, 3),
+)
+
+
+def join_cases(cases):
+    """Joins: their runs, the length of a rule's line (8), wrong ones (7), and texts too long to be joined (12)."""
+    texts = [written(text) for text in SERIAL]
+    cases.book(texts, [(JOIN, 1, 2, 5), (JOIN, 2, 3, 4)])
+    cases.book(texts, [(JOIN, 2, 3, 4), (JOIN, 1, 2, 5)])
+    cases.book([written("W1..1 {0,O}1..1 {1,7}4..4 -1..1 {A,4}1..1"), *texts[1:]], [(JOIN, 1, 2, 5), (JOIN, 2, 3, 4)])
+    cases.book([written("W1..1 {0,O}1..1 {1,7}4..4 {A,4}1..1"), *texts[1:]], [(JOIN, 1, 2, 5), (JOIN, 2, 3, 4)])
+    cases.file(JOINED)
+    for line in (
+        b"1", b"1 2", b"1 2 1", b"1 2 1 0 0", b"1 2 1 0 0 0", b"3", b"3 1", b"3 1 2", b"3 1 2 3", b"3 1 2 3 0",
+        b"3 1 2 3 4 5", b"3 1 2 ", b"3 1 2  3", b"3  1 2 3", b"3 1 2 3 ", b"3 1 2 03", b"3 1 2 65535", b"3 1 2 65536",
+        b"3 1 2 x", b"3,1,2,3", b"1 2 1 00", b"1 2 1 -0", b"03 1 2 3", b"",
+    ):
+        cases.file(JOINED.replace(b"1 2 1 0\n", line + b"\n"))
+    # Rules of three numbers, as they once were, and one that lacks its last number at the end of the file.
+    cases.file(EXAMPLE.replace(b"0 1 2 0\n", b"0 1 2\n"))
+    cases.file(JOINED.replace(b"3 1 2 3\n", b"3 1 2\n"))
+    cases.file(JOINED[:-3] + b"\n")
+    texts = [GOOD, block(b"b", 1, 2), GOOD]
+    for rule in WRONG_JOINS:
+        cases.book(texts, [rule])
+        cases.book(texts, [(JOIN, 1, 2, 3), rule, (7, 7, 7, 7)])
+    for front, back in TOGETHER:
+        cases.book([GOOD, block(b"a", 0, front), block(b"b", 0, back)], [(JOIN, 1, 2, 3)])
+    long = [GOOD, block(b"a", 0, 126), block(b"a", 0, 125), GOOD]
+    over = file_of(long, [(JOIN, 1, 2, 3)])
+    for length in (0, REPORT_WANTED - 1, REPORT_WANTED + 1):
+        cases.file(over, length)
+    cases.file(over[:-1])
+    cases.file(over + b"\n")
+    for rules in (
+        [(JOIN, 1, 2, 3), (JOIN, 1, 2, 9)], [(JOIN, 1, 2, 9), (JOIN, 1, 2, 3)], [(EQUAL, 2, 4), (JOIN, 1, 2, 3)],
+        [(JOIN, 1, 4, 2), (JOIN, 2, 4, 3), (JOIN, 1, 3, 2)], [(JOIN, 2, 2, 3)], [(EQUAL, 1, 2, 3)],
+        [(AT_MOST, 1, 4)] * (MOST_RULES - 1) + [(JOIN, 1, 2, 3)],
+    ):
+        cases.book(long, rules)
+    for bad in (BAD, HEAVY * 2):
+        cases.book([*long[:3], bad], [(JOIN, 1, 2, 3)])
+    dice = Dice(42)
+    for number in range(40):
+        texts, rules = join_book(dice, number % 2 == 0)
+        cases.book(texts, rules)
+
+
 def wrong_lines(line):
     """Lines that stand for this one, without its newline: nearly the same, or of another kind."""
     yield from (b"", b" ", b" " + line, line + b" ", line + b"\r", line + b"\t", line + b"\0", b"\0" + line)
@@ -484,12 +548,14 @@ def wrong_lines(line):
         yield from (first + b" +" + rest, first + b" -" + rest, first + b"," + rest, first + b"\n" + rest)
         yield first + b" 0x" + rest
         front, last = line.rsplit(b" ", 1)
+        yield from (front, front + b" ", front + b"  " + last, line + b" " + last)
         for number in (b"00", b"01", b"010", b"65535", b"65536", b"65540", b"66000", b"70000", b"99999", b"100000"):
             yield front + b" " + number
         for number in (2**16 + 1, 2**32 + 1, 2**64, 2**64 + 1, 10**30):
             yield front + b" %d" % number
         yield from (front + b" 1 " + last, front + b" " + last[::-1] + b".", front + b" 1e1", front + b" 1.0")
-    yield from (b"TEXTS 1", b"BLOCKS 1", b"RULES 1", b"0", b"65535", b"65536", b"00", b"1 1 2", b"0" * 32 + b" 0 0")
+    yield from (b"TEXTS 1", b"BLOCKS 1", b"RULES 1", b"0", b"65535", b"65536", b"00", b"1 1 2", b"1 1 2 0")
+    yield b"0" * 32 + b" 0 0"
 
 
 def line_cases(cases):
@@ -528,7 +594,7 @@ def word_cases(cases):
     # The most lines of a section, and one more, none of them there.
     for file in (b"TEXTS 8\n", b"TEXTS 9\n", b"TEXTS 0\nBLOCKS 256\n", b"TEXTS 0\nBLOCKS 257\n"):
         cases.file(file)
-    for file in (b"RULES 16\n", b"RULES 17\n", b"RULES 0\n", b"RULES 0", b"RULES 1\n", b"RULES 1\n0 0 0\n"):
+    for file in (b"RULES 16\n", b"RULES 17\n", b"RULES 0\n", b"RULES 0", b"RULES 1\n", b"RULES 1\n0 0 0 0\n"):
         cases.file(b"TEXTS 0\nBLOCKS 0\n" + file)
     cases.file(b"TEXTS 8\n" + b"1\n" * 8 + b"BLOCKS 8\n" + (block_line(GOOD) * 8).encode() + b"RULES 17\n")
 
@@ -543,7 +609,7 @@ def short_cases(cases):
         cases.file(front + EXAMPLE)
     for end in (b"\r\n", b"\r", b" ", b""):
         cases.file(EXAMPLE.replace(b"\n", end))
-    for more in (b"\n", b"\n\n", b" ", b" \n", b"0", b"x", b"\0", b"\r", b"\xff", b"0 1 2\n", b"RULES 0\n"):
+    for more in (b"\n", b"\n\n", b" ", b" \n", b"0", b"x", b"\0", b"\r", b"\xff", b"0 1 2 0\n", b"RULES 0\n"):
         cases.file(EXAMPLE + more)
         cases.file(EXAMPLE[:-1] + more)
     cases.file(EXAMPLE + EXAMPLE)
@@ -572,7 +638,7 @@ def changed_cases(cases):
 
 def size_cases(cases):
     """Files of the greatest size and of one byte more."""
-    filler = b"0 1 2\n" * 3000
+    filler = b"0 1 2 0\n" * 3000
     cases.file((EXAMPLE + filler)[:MOST_BYTES])
     cases.file((EXAMPLE + filler)[: MOST_BYTES + 1])
     # The file's refusals come before that of an output too short.
@@ -608,6 +674,7 @@ def all_cases():
     changed_cases(cases)
     report_cases(cases)
     random_cases(cases)
+    join_cases(cases)
     large_cases(cases)
     size_cases(cases)
     return cases.lines
@@ -618,5 +685,5 @@ def hold_to_room(lines):
         _, length, field = line.split(" ")
         if len(bytes_read(field)) > LONGEST_FILE or int(length, 16) > LONGEST_REPORT:
             raise AssertionError(f"no room for this case: {line}")
-    if sum(len(line) + 1 for line in lines) >= INPUT_ROOM:
+    if sum(len(line) + 1 for line in lines) >= LARGE_INPUT_ROOM:
         raise AssertionError("no room for so many cases")

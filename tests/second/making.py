@@ -4,8 +4,9 @@ import re
 
 from shapes import MOST_BLOCKS, MOST_CHARACTERS, Refused, agree, fillings, shape_of
 
-# Every program reads all of its input at once.
+# Every program reads all of its input at once. Most have room for so much, those of narrowing and of files for more.
 INPUT_ROOM = 400_000
+LARGE_INPUT_ROOM = 1_000_000
 
 # What the cells of an output of numbers hold before a call.
 NUMBER_FILLER = 0xA5A5
@@ -41,13 +42,13 @@ def lists_read(numbers, count):
     return lists
 
 
-def hold_lines_to_room(lines, most_numbers):
-    """Raises where a program with room for so many numbers to a line could not read the lines."""
+def hold_lines_to_room(lines, most_numbers, room=INPUT_ROOM):
+    """Raises where a program with room for so many bytes, and so many numbers to a line, could not read the lines."""
     for line in lines:
         fields = line.split(" ")[1:]
         if len(fields) > most_numbers or any(len(field) > 16 for field in fields):
             raise AssertionError(f"no room for this case: {line}")
-    if sum(len(line) + 1 for line in lines) >= INPUT_ROOM:
+    if sum(len(line) + 1 for line in lines) >= room:
         raise AssertionError("no room for so many cases")
 
 
@@ -205,15 +206,19 @@ def small_shape(dice):
 def large_shape(dice):
     codes = dice.pick((b"AB", b"ABC", b"ABCDEFGH", (0, 1, 2, 64, 65, 66), range(60, 70), range(128)))
     count = dice.pick((3, 8, 16, 31, 32))
-    room = dice.pick((100, 200, 250))
+    return codes, shared_out(dice, codes, count, dice.pick((100, 200, 250)))
+
+
+def shared_out(dice, codes, count, total):
+    """A shape of so many blocks among which so many characters are shared out."""
     uppers = [0] * count
-    for _ in range(room):
+    for _ in range(total):
         uppers[dice.below(count)] += 1
     words = []
     for upper in uppers:
         lower = dice.pick((0, 0, upper, dice.between(0, upper)))
         words += block(dice.some(codes) if upper else (), lower, upper)
-    return codes, words
+    return words
 
 
 def carved(dice, codes, text, blocks):

@@ -1,287 +1,22 @@
-"""Exact narrowing under equality, "at most" and "before".
+"""The cases of narrowing: two shapes under equality, "at most" and "before", and three under a join."""
 
-Two methods, held to each other. Where fillings are few, every pair of texts is looked at. Otherwise
-rows of bit sets over the states in which two fillings can be while their texts are still alike.
-"""
+from itertools import product
 
-from functools import lru_cache
-
-from bounds import bound
+import joins
+import pairs
+from joins import JOIN, narrowed_join
 from making import (
-    NUMBER_FILLER, Dice, block, counted, edge_pairs, hexes, hold_lines_to_room, large_pair, lists_read, numbers_read,
-    refused_pairs, small_pair, words_of, written,
+    LARGE_INPUT_ROOM, NUMBER_FILLER, ONE_EACH, Dice, block, carved, counted, edge_pairs, hexes, hold_lines_to_room,
+    large_pair, lists_read, many_blocks, numbers_read, random_filling, refused_pairs, shared_out, small_blocks,
+    small_pair, unsound_blocks, words_of, written,
 )
-from shapes import WORK_WANTED, Block, Refused, agree, all_runs, fillings, pair_of
-
-EQUAL, AT_MOST, BEFORE = KINDS = (0, 1, 2)
-
-# Pairs of shapes with at most so many fillings each, and so many pairs, are settled by all of them.
-FEW_FILLINGS = 600
-FEW_PAIRS = 60_000
+from pairs import AT_MOST, BEFORE, EQUAL, FEW_FILLINGS, KINDS, narrowed
+from shapes import MOST_BLOCKS, MOST_CHARACTERS, WORK_WANTED, Refused, agree, fillings, pair_of, shape_of, trio_of
 
 # What the program has room for.
 MOST_NUMBERS = 420
 LONGEST_OUTPUT = 200
 LONGEST_WORK = 70_000
-
-
-# Every pair of fillings.
-
-
-@lru_cache(maxsize=3000)
-def hulls_by_text(shape):
-    """For each text, block by block: the characters held, the least and the greatest run of its fillings."""
-    found = {b"": ()}
-    for block in shape:
-        runs = all_runs(block)
-        longer = {}
-        for text, hull in found.items():
-            for run in runs:
-                one = hull + ((frozenset(run), len(run), len(run)),)
-                whole = text + run
-                longer[whole] = joined(longer[whole], one) if whole in longer else one
-        found = longer
-    return found
-
-
-def joined(one, other):
-    """The hull of two hulls."""
-    return tuple((a | b, min(l, k), max(u, v)) for (a, l, u), (b, k, v) in zip(one, other))
-
-
-HOLDS = {
-    EQUAL: lambda one, other: one == other,
-    # Python orders byte strings as 003 orders texts.
-    AT_MOST: lambda one, other: one <= other,
-    BEFORE: lambda one, other: one < other,
-}
-
-
-def narrowed_by_pairs(first, second, kind):
-    """Both narrowed shapes, or None."""
-    holds = HOLDS[kind]
-    ours, others = hulls_by_text(first), hulls_by_text(second)
-    hull = hull_of(ours[one] for one in ours if any(holds(one, other) for other in others))
-    other_hull = hull_of(others[other] for other in others if any(holds(one, other) for one in ours))
-    return None if hull is None else (hull, other_hull)
-
-
-def hull_of(hulls):
-    """The hull of all of them as a shape, or None if there are none."""
-    whole = None
-    for hull in hulls:
-        whole = hull if whole is None else joined(whole, hull)
-    return None if whole is None else tuple(Block(tuple(sorted(held)), least, most) for held, least, most in whole)
-
-
-def hull_of_shape(shape):
-    return tuple((frozenset(base), lower, upper) for base, lower, upper in shape)
-
-
-# Rows of bit sets. A state says how many characters of which block are laid; the states of a shape
-# are numbered in the order in which a filling goes through them, and the last one is the end. A row
-# belongs to a state of the first shape, its bits to the states of the second: both have read one text.
-# A relation is what may follow: both end; the first has the smaller or the greater next character,
-# the end counting as smaller than all, and then each goes on as it likes.
-
-
-class States:
-    def __init__(self, shape):
-        self.shape = shape
-        self.masks = [sum(1 << code for code in base) for base, _, _ in shape]
-        self.start = [0]
-        self.grow = []
-        self.close = []
-        for _, lower, upper in shape:
-            start = self.start[-1]
-            self.grow.append(bits(start, start + upper))
-            self.close.append(bits(start + lower, start + upper + 1))
-            self.start.append(start + upper + 1)
-        self.end = self.start[-1]
-        self.growing = 0
-        for grow in self.grow:
-            self.growing |= grow
-
-    def forward(self, row):
-        """The row with what is reached by ending runs."""
-        for close, start in zip(self.close, self.start[1:]):
-            if row & close:
-                row |= 1 << start
-        return row
-
-    def backward(self, row):
-        """The row with the states that reach it by ending runs."""
-        for close, start in zip(reversed(self.close), reversed(self.start)):
-            if row >> start & 1:
-                row |= close
-        return row
-
-    def growing_where(self, test):
-        """The states that can take a character, of the blocks that pass the test."""
-        row = 0
-        for block, grow in zip(self.shape, self.grow):
-            if block.upper and test(block):
-                row |= grow
-        return row
-
-
-def bits(start, end):
-    return (1 << end) - (1 << start)
-
-
-class Relation:
-    def __init__(self, alike, smaller, greater):
-        self.alike, self.smaller, self.greater = alike, smaller, greater
-
-
-# Of the first to the second, and of the second to the first.
-RELATIONS = {
-    EQUAL: (Relation(True, False, False), Relation(True, False, False)),
-    AT_MOST: (Relation(True, True, False), Relation(True, False, True)),
-    BEFORE: (Relation(False, True, False), Relation(False, False, True)),
-}
-
-
-def rows_before(ours, others, meets):
-    """For each state of ours the states of the others that are reached by some text with it."""
-    rows = [0] * (ours.end + 1)
-    rows[0] = 1
-    for number, (_, lower, upper) in enumerate(ours.shape):
-        for count in range(upper + 1):
-            at = ours.start[number] + count
-            rows[at] = others.forward(rows[at])
-            if count >= lower:
-                rows[ours.start[number + 1]] |= rows[at]
-            if count < upper:
-                rows[at + 1] |= (rows[at] & meets[number]) << 1
-    rows[ours.end] = others.forward(rows[ours.end])
-    return rows
-
-
-def rows_after(ours, others, meets, parts, relation):
-    """For each state of ours the states of the others from where the relation can come about."""
-    rows = [0] * (ours.end + 1)
-    end = (1 << others.end if relation.alike else 0) | (others.growing if relation.smaller else 0)
-    rows[ours.end] = others.backward(end)
-    for number in reversed(range(len(ours.shape))):
-        _, lower, upper = ours.shape[number]
-        for count in reversed(range(upper + 1)):
-            at = ours.start[number] + count
-            row = 0
-            if count >= lower:
-                row |= rows[ours.start[number + 1]]
-            if count < upper:
-                row |= rows[at + 1] >> 1 & meets[number]
-                row |= parts[number]
-            rows[at] = others.backward(row)
-    return rows
-
-
-def parted(block, others, relation):
-    """The states of the others at which the block's next character may be the first that differs."""
-    row = 0
-    if block.upper and relation.smaller:
-        row |= others.growing_where(lambda other: block.base[0] < other.base[-1])
-    if block.upper and relation.greater:
-        row |= others.growing_where(lambda other: block.base[-1] > other.base[0])
-        row |= 1 << others.end
-    return row
-
-
-def parting_characters(block, row, others, relation):
-    """The block's characters that can be the first that differs from a state of the row."""
-    mask = 0
-    next_ones = [other for other, grow in zip(others.shape, others.grow) if row & grow]
-    for code in block.base:
-        smaller = relation.smaller and any(code < other.base[-1] for other in next_ones)
-        greater = relation.greater and (row >> others.end & 1 or any(code > other.base[0] for other in next_ones))
-        if smaller or greater:
-            mask |= 1 << code
-    return mask
-
-
-def hull_by_rows(first, second, relation):
-    """The first shape narrowed, or None."""
-    ours, others = States(first), States(second)
-    meets = [others.growing_where(lambda other: not set(b.base).isdisjoint(other.base)) for b in first]
-    parts = [parted(b, others, relation) for b in first]
-    before = rows_before(ours, others, meets)
-    after = rows_after(ours, others, meets, parts, relation)
-    if not after[0] & 1:
-        return None
-    # States from where the filling goes on as it likes.
-    free = [False] * (ours.end + 1)
-    hull = []
-    for number, block in enumerate(first):
-        held, lengths = 0, []
-        for count in range(block.upper + 1):
-            at = ours.start[number] + count
-            if count >= block.lower:
-                if free[at] or before[at] & after[ours.start[number + 1]]:
-                    lengths.append(count)
-                free[ours.start[number + 1]] |= free[at]
-            if count < block.upper:
-                if free[at]:
-                    free[at + 1] = True
-                    held |= ours.masks[number]
-                if before[at] & parts[number]:
-                    free[at + 1] = True
-                    held |= parting_characters(block, before[at], others, relation)
-                both = before[at] & after[at + 1] >> 1
-                for mask, grow in zip(others.masks, others.grow):
-                    if both & grow:
-                        held |= ours.masks[number] & mask
-        codes = tuple(code for code in block.base if held >> code & 1)
-        hull.append(Block(codes, min(lengths), max(lengths)))
-    return tuple(hull)
-
-
-@lru_cache(maxsize=3000)
-def narrowed_by_rows(first, second, kind):
-    """Both narrowed shapes, or None."""
-    relation, turned = RELATIONS[kind]
-    hull = hull_by_rows(first, second, relation)
-    other_hull = hull_by_rows(second, first, turned)
-    if (hull is None) != (other_hull is None):
-        raise AssertionError(f"none for one side only: {first} {second}")
-    return None if hull is None else (hull, other_hull)
-
-
-# Both methods, and laws that hold whatever the shapes.
-
-
-def one_text(text):
-    """The shape of one text, a block for each character; it may have more blocks than a lent one."""
-    return tuple(Block((code,), 1, 1) for code in text) or (Block((), 0, 0),)
-
-
-def hold_to_laws(first, second, kind, result):
-    if result is not None:
-        agree("narrowing twice", (first, second), narrowed_by_rows(*result, kind), result)
-    if kind == EQUAL:
-        turned = narrowed_by_rows(second, first, kind)
-        agree("equality turned", (first, second), turned and turned[::-1], result)
-    else:
-        # A text stands in the relation to some text of a shape if it does to the greatest, or the least.
-        greatest, least = one_text(bound(second, True)), one_text(bound(first, False))
-        one = narrowed_by_rows(first, greatest, kind)
-        other = narrowed_by_rows(least, second, kind)
-        agree("order against a bound", (first, second), one and other and (one[0], other[1]), result)
-    if kind == AT_MOST:
-        parts = (narrowed_by_rows(first, second, part) for part in (EQUAL, BEFORE))
-        sides = zip(*(part for part in parts if part is not None))
-        whole = tuple(hull_of(hull_of_shape(shape) for shape in side) for side in sides) or None
-        agree("at most as equal or before", (first, second), whole, result)
-
-
-@lru_cache(maxsize=3000)
-def narrowed(first, second, kind):
-    """Both narrowed shapes, or None for none."""
-    result = narrowed_by_rows(first, second, kind)
-    few = fillings(first) <= FEW_FILLINGS and fillings(second) <= FEW_FILLINGS
-    if few and fillings(first) * fillings(second) <= FEW_PAIRS:
-        agree("narrowing", (first, second, kind), result, narrowed_by_pairs(first, second, kind))
-    return result
 
 
 # The expected line of a case.
@@ -292,28 +27,46 @@ def work_shown(length, accepted):
     return f"work {WORK_WANTED} {length - WORK_WANTED}" if accepted else f"work 0 {length}"
 
 
+def case_read(line):
+    """The kind, the length of the work buffer, those of the outputs, and the numbers of the shapes."""
+    letter, *numbers = line.split(" ")
+    numbers = numbers_read(numbers)
+    kind, count = (JOIN, 3) if letter == "J" else (numbers.pop(0), 2)
+    return kind, numbers[0], numbers[1 : 1 + count], lists_read(numbers[1 + count :], count)
+
+
+def result_of(kind, shapes):
+    if kind == JOIN:
+        result = narrowed_join(*shapes)
+        joins.hold_to_laws(*shapes, result)
+    else:
+        result = narrowed(*shapes, kind)
+        pairs.hold_to_laws(*shapes, kind, result)
+    return result
+
+
 def expected_line(line):
-    _, *numbers = line.split(" ")
-    kind, work, length, other_length, *numbers = numbers_read(numbers)
-    words = lists_read(numbers, 2)
-    outputs = [[NUMBER_FILLER] * length, [NUMBER_FILLER] * other_length]
+    kind, work, lengths, words = case_read(line)
+    outputs = [[NUMBER_FILLER] * length for length in lengths]
     accepted = False
     try:
-        shapes = pair_of(*words)
+        shapes = trio_of(*words) if kind == JOIN else pair_of(*words)
         if work < WORK_WANTED:
             raise Refused(4, 0, 0)
         for number, (shape, output) in enumerate(zip(shapes, outputs), 1):
             if len(output) < 4 * len(shape):
                 raise Refused(5, number, 0)
         accepted = True
-        result = narrowed(*shapes, kind)
-        hold_to_laws(*shapes, kind, result)
+        result = result_of(kind, shapes)
         head = "none" if result is None else "narrow"
         for shape, output in zip(result or (), outputs):
             output[: 4 * len(shape)] = words_of(shape)
     except Refused as refusal:
         head = refusal.line
-    return " ".join([head, *hexes(outputs[0]), "/", *hexes(outputs[1]), work_shown(work, accepted)])
+    fields = [head]
+    for number, output in enumerate(outputs):
+        fields += ["/", *hexes(output)] if number else hexes(output)
+    return " ".join([*fields, work_shown(work, accepted)])
 
 
 # Making cases.
@@ -333,6 +86,12 @@ class Cases:
     def kinds(self, first, second):
         for kind in KINDS:
             self.add(kind, first, second)
+
+    def join(self, whole, front, back, work=WORK_WANTED, lengths=(None, None, None)):
+        """A case of three shapes; an output without a length is exactly as long as it has to be."""
+        trio = whole, front, back
+        lengths = [len(words) if length is None else length for length, words in zip(lengths, trio)]
+        self.lines.append(" ".join(["J", *hexes([work, *lengths, *(n for words in trio for n in counted(words))])]))
 
 
 RUN = "{d,e}0..1 {f,g}0..4 {d,e,f}2..4 {a,b,c}0..3 {f,g}1..4", "{a,b}0..3 {c,d}0..3 a1..3 {d,e}1..3"
@@ -433,6 +192,194 @@ def alike_cases(cases):
         cases.kinds(stem + tail + stem, stem + other_tail)
 
 
+# Joins. Whole, front, back and the answer as it is found by hand.
+JOINS = (
+    ("{a,b}0..3", "a1..1", "b0..2", ("{a,b}1..3", "a1..1", "b0..2")),
+    ("a1..1 b1..1", "b1..1", "a1..1", None),
+    ("a0..9 b0..9", "a2..4 b1..1", "{a,b}3..3", ("a2..4 b4..4", "a2..4 b1..1", "b3..3")),
+    ("{a,b}2..2", "a0..1", "b0..2", ("{a,b}2..2", "a0..1", "b1..2")),
+    # Each character may be of either part: nothing is cut because one triple explains the text.
+    ("a1..1", "a0..1", "a0..1", ("a1..1", "a0..1", "a0..1")),
+    ("a2..2", "a0..2", "a0..2", ("a2..2", "a0..2", "a0..2")),
+    ("a0..2 b0..2", "{a,b}0..2", "{a,b}2..2", ("a0..2 b0..2", "a0..2", "{a,b}2..2")),
+    # Lengths that force.
+    ("a0..9", "a3..4", "a5..6", ("a8..9", "a3..4", "a5..6")),
+    ("a0..8", "a3..4", "a5..6", ("a8..8", "a3..3", "a5..5")),
+    ("a0..7", "a3..4", "a5..6", None),
+    ("{a..z}10..10", "{a..m}0..6", "{n..z}0..4", ("{a..z}10..10", "{a..m}6..6", "{n..z}4..4")),
+    ("{a..z}11..11", "{a..m}0..6", "{n..z}0..4", None),
+    # A run that lies across the seam.
+    ("a1..9", "b0..1 a2..2", "a2..2 c0..1", ("a4..4", "empty 0..0 a2..2", "a2..2 empty 0..0")),
+    ("a0..9", "a0..3 b1..1", "a0..3", None),
+    # Empty texts.
+    ("empty 0..0", "a0..1", "b0..1", ("empty 0..0",) * 3),
+    ("empty 0..0", "a1..1", "b0..1", None),
+    ("empty 0..0", "a0..1", "b1..1", None),
+    ("a0..1", "empty 0..0", "empty 0..0", ("empty 0..0",) * 3),
+    ("a1..1", "empty 0..0", "empty 0..0", None),
+    ("a1..1", "b0..1", "a0..1", ("a1..1", "empty 0..0", "a1..1")),
+    ("a1..1", "a0..1", "b0..1", ("a1..1", "a1..1", "empty 0..0")),
+    ("{a,b}0..9", "empty 0..0", "{b,c}2..2", ("b2..2", "empty 0..0", "b2..2")),
+    ("{a,b}0..9", "{b,c}2..2", "empty 0..0", ("b2..2", "b2..2", "empty 0..0")),
+    # A serial line; and a worn one, on which places tell a letter from a digit.
+    ("{0..9,A..Z,-}0..12", "{A..Z}2..3 {0..9}3..4", "-1..1 {A..F}1..1",
+     ("{0..9,A..Z,-}7..9", "{A..Z}2..3 {0..9}3..4", "-1..1 {A..F}1..1")),
+    ("W1..1 {0,O,Q}1..1 {8,B}1..1 {0..9}2..2", "{A..Z}2..3", "{1..9}1..1 {0..9}1..2",
+     ("W1..1 {O,Q}1..1 {8,B}1..1 {0..9}2..2", "{B,O,Q,W}2..3", "{1..9}1..1 {0..9}1..2")),
+    # As long as may be.
+    ("a250..250", "a0..125", "a0..125", ("a250..250", "a125..125", "a125..125")),
+    ("a0..250", "a0..249", "b0..1", ("a0..249", "a0..249", "empty 0..0")),
+    ("a0..125 b0..125", "a0..1 b0..1", "{a,b}0..248", ("a0..125 b0..125", "a0..1 b0..1", "{a,b}0..248")),
+    ("a249..249 b1..1", "a0..125", "a0..124 b0..1", ("a249..249 b1..1", "a125..125", "a124..124 b1..1")),
+)
+
+
+def join_table_cases(cases):
+    for *trio, answer in JOINS:
+        trio = [written(shape) for shape in trio]
+        found = narrowed_join(*trio_of(*trio))
+        found = found and tuple(words_of(shape) for shape in found)
+        agree("a join found by hand", trio, found, answer and tuple(written(shape) for shape in answer))
+        whole, front, back = trio
+        cases.join(whole, front, back)
+        cases.join(whole, back, front)
+    # Small shapes that can be empty, are empty, or cannot be.
+    shapes = ("empty 0..0", "a0..1", "a1..1", "b0..1", "a0..2 b0..1", "empty 0..0 {a,b}1..2")
+    for trio in product(map(written, shapes), repeat=3):
+        cases.join(*trio)
+    # The least and greatest codes of both numbers of a base.
+    codes = [block([code], 1, 1) for code in (0, 63, 64, 127)]
+    for front in codes:
+        for back in codes:
+            cases.join(front + back, front, back)
+            cases.join(block((0, 127), 0, 2), front, back)
+            cases.join(front, block((0, 63, 64, 127), 0, 2), block(range(128), 0, 1))
+
+
+def join_lent_cases(cases):
+    """Work buffers and outputs too short, exact and longer, alone and together: 4, then 5 by the outputs' numbers."""
+    for trio in (("{a,b}0..3", "a1..1 b0..1", "b0..2"), ("a1..1 b0..1", "b1..1", "a0..1 c0..2")):
+        trio = [written(shape) for shape in trio]
+        for work in (0, 1, WORK_WANTED - 1, WORK_WANTED, WORK_WANTED + 1, LONGEST_WORK):
+            cases.join(*trio, work)
+            cases.join(*trio, work, [len(words) + 3 for words in trio])
+        for place, words in enumerate(trio):
+            for length in (0, 1, len(words) - 1, len(words) + 1, LONGEST_OUTPUT):
+                lengths = [None] * 3
+                lengths[place] = length
+                cases.join(*trio, lengths=lengths)
+        for short in range(1, 8):
+            lengths = [len(words) - (short >> place & 1) for place, words in enumerate(trio)]
+            cases.join(*trio, lengths=lengths)
+            cases.join(*trio, WORK_WANTED - 1, lengths)
+
+
+# What the uppers of front and back may be: 12 if they add to over 250.
+TOGETHER = (
+    (125, 125), (125, 126), (126, 125), (249, 1), (250, 1), (1, 249), (1, 250), (250, 250), (199, 51), (200, 51),
+)
+
+
+def refused_trios():
+    """Trios with shapes refused for every reason, and with parts too long to be joined, alone and together."""
+    good, bad, heavy, long = block(b"AB", 0, 3), block(b"A", 2, 1), block(b"A", 0, 200), block(b"A", 0, 126)
+    shapes = [[], [1], good[:3], good + [7], good * 33, good + bad + bad, bad + heavy * 2, heavy * 2 + bad]
+    shapes += [heavy * 2, many_blocks(32, 251), *ONE_EACH]
+    for shape in shapes:
+        yield shape, good, good
+        yield good, shape, good
+        yield good, good, shape
+        # Too long besides, as far as that can be told.
+        yield shape, long, long
+        yield long, long, long + shape
+    # Of several that are refused the first decides, and in it the first block.
+    for one in ([], *ONE_EACH, heavy * 2):
+        for other in ([], *ONE_EACH, heavy * 2):
+            yield good, one, other
+            yield one, good, other
+            yield one, other, good
+        yield one, one, one
+    for at, unsound in enumerate(unsound_blocks()):
+        trio = [good, long, long]
+        trio[at % 3] = good + unsound
+        yield trio
+        trio = [good, good, long]
+        trio[(at + 1) % 3] = unsound
+        yield trio
+    for front, back in TOGETHER:
+        yield good, block(b"A", 0, front), block(b"A", 0, back)
+        yield good, block(b"AB", front, front), block(b"AB", 0, back)
+        yield good, good + block(b"A", 0, 125 - 3), good * 2 + block(b"B", 0, front) + block(b"C", 0, 125 - 6)
+    yield long, block(b"A", 0, 250), block((), 0, 0)
+    yield long, block((), 0, 0), block(b"A", 0, 250)
+
+
+def join_refusal_cases(cases):
+    for at, trio in enumerate(refused_trios()):
+        cases.join(*trio)
+        if sum(map(len, trio)) < 40 and at % 2:
+            # Also with a work buffer and outputs that are too short, which come last.
+            work, length = ((0, 0), (WORK_WANTED - 1, None), (WORK_WANTED, 0))[at % 3]
+            cases.join(*trio, work, [length] * 3)
+
+
+def small_trio(dice):
+    """Three shapes over one alphabet with few fillings; in most the whole takes some text of front and back."""
+    while True:
+        codes = dice.pick(((0, 1), (0, 1), (0, 1, 2), (64, 65), (0, 63, 64, 127)))
+        front, back = (small_blocks(dice, codes)[: 4 * dice.between(1, 3)] for _ in range(2))
+        way = dice.below(8)
+        if way < 5:
+            text = random_filling(dice, shape_of(front)) + random_filling(dice, shape_of(back))
+            whole = carved(dice, codes, text, dice.between(1, 4))
+        elif way == 5:
+            whole = front + back
+        else:
+            whole = small_blocks(dice, codes)
+        trio = whole, front, back
+        if all(fillings(shape_of(one)) <= FEW_FILLINGS for one in trio):
+            return trio
+
+
+def large_trio(dice):
+    """Three shapes of many blocks, the uppers of front and back adding to 250; mostly they can be joined."""
+    codes = dice.pick((b"AB", b"ABC", (0, 1, 64, 65), range(60, 70)))
+    length = dice.pick((32, 125, 218, dice.between(40, 200)))
+    front, back = (shared_out(dice, codes, dice.pick((8, 32, 32)), most) for most in (length, MOST_CHARACTERS - length))
+    text = random_filling(dice, shape_of(front)) + random_filling(dice, shape_of(back))
+    return carved(dice, codes, text, dice.pick((8, 31, 32, 32))), front, back
+
+
+def large_join_cases(cases):
+    dice = Dice(24)
+    for _ in range(12):
+        cases.join(*large_trio(dice))
+    # As many blocks as may be in all three, and one character more than may be.
+    for front, back in ((125, 125), (125, 126), (218, 32), (219, 32), (32, 219)):
+        cases.join(many_blocks(MOST_BLOCKS, 250), many_blocks(MOST_BLOCKS, front), many_blocks(MOST_BLOCKS, back))
+    sevens = block(b"A", 0, 7) * MOST_BLOCKS
+    threes = block(b"A", 0, 3) * MOST_BLOCKS
+    fixed = block(b"A", 3, 3) * MOST_BLOCKS
+    cases.join(sevens, threes, threes)
+    cases.join(sevens, fixed, fixed)
+    cases.join(fixed, fixed, threes)
+    cases.join(written("A0..250"), fixed, threes)
+    # No text, though each part by itself is that of some text.
+    cases.join(block(b"AB", 7, 7) * MOST_BLOCKS, fixed, many_blocks(2, 127))
+    cases.join(*[block(b"A", 1, 1) * MOST_BLOCKS] * 3)
+    cases.join(*[block((), 0, 0) * MOST_BLOCKS] * 3)
+
+
+def join_cases(cases):
+    join_table_cases(cases)
+    join_lent_cases(cases)
+    join_refusal_cases(cases)
+    dice = Dice(23)
+    for _ in range(500):
+        cases.join(*small_trio(dice))
+    large_join_cases(cases)
+
+
 def all_cases():
     cases = Cases()
     table_cases(cases)
@@ -449,12 +396,13 @@ def all_cases():
         cases.kinds(*small_pair(dice, FEW_FILLINGS))
     for _ in range(24):
         cases.kinds(*large_pair(dice))
+    join_cases(cases)
     return cases.lines
 
 
 def hold_to_room(lines):
-    hold_lines_to_room(lines, MOST_NUMBERS)
+    hold_lines_to_room(lines, MOST_NUMBERS, LARGE_INPUT_ROOM)
     for line in lines:
-        kind, work, length, other_length = numbers_read(line.split(" ")[1:5])
-        if kind not in KINDS or work > LONGEST_WORK or max(length, other_length) > LONGEST_OUTPUT:
+        kind, work, lengths, _ = case_read(line)
+        if kind not in (*KINDS, JOIN) or work > LONGEST_WORK or max(lengths) > LONGEST_OUTPUT:
             raise AssertionError(f"no room for this case: {line}")

@@ -7,7 +7,7 @@ print. Nothing in it is taken from the proved library.
     second.py cases NAME       prints the test input of a program, always the same
     second.py expected NAME    reads a test input of that program and prints the expected output
     second.py report           reads a book's file and prints the report that is due
-    second.py example          prints document 01's book
+    second.py example          prints document 01's book, its rule of four numbers
 
 NAME is base, sweep, narrow, common, book or file. A case is a line, its fields parted by single blanks. A number is
 lowercase hex without needless zeros. A list is its count and then its numbers; a shape is lent as any
@@ -32,6 +32,9 @@ outputs have rx and ry numbers, each 0xa5a5, all shown after the call with ` /` 
 the work buffer the bytes 0 at its start and the bytes 0x5a at its end are counted.
 
     N kind k rx ry X Y    narrow outputs work z e | none outputs work z e | refused number text place outputs work z e
+    J k rx ry rz X Y Z    the same with three outputs
+
+J narrows three shapes where the text of X is that of Y followed by that of Z.
 
 common. The earliest common text of X and Y. The work buffer has k bytes, each 0x5a, and is shown as above.
 The output has r bytes, each 0xa5; the text is shown as in base, and then the untouched bytes at the
@@ -40,8 +43,8 @@ output's end are counted, all of them where there is no text.
     C k r X Y        text length text rest e work z e | none rest e work z e
                      | refused number text place rest e work z e
 
-book. Work buffer, block counts of the texts, blocks and rules. All numbers of the blocks are shown
-after the call, and the work buffer as above.
+book. Work buffer, block counts of the texts, blocks and rules, four numbers to a rule. All numbers of the
+blocks are shown after the call, and the work buffer as above.
 
     B k counts blocks rules    stable applications blocks work z e | none applications blocks work z e
                                | refused number text place blocks work z e

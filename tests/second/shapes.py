@@ -1,4 +1,4 @@
-"""What document 01 says of shapes, fillings and refusals, and document 02, order 1, of a block that is refused."""
+"""What document 01 says of shapes, fillings and refusals; document 02, orders 1 and 3, of bad blocks and of joins."""
 
 from functools import lru_cache
 from itertools import product
@@ -45,6 +45,11 @@ WRONG = {
 }
 
 
+def total(shape):
+    """What the uppers of a shape add to."""
+    return sum(block.upper for block in shape)
+
+
 def shape_of(words, number=1):
     """The blocks of the shape lent as `words`, the shape's number being `number`."""
     blocks, rest = divmod(len(words), 4)
@@ -58,7 +63,7 @@ def shape_of(words, number=1):
         agree("soundness", shape[-1], sound(shape[-1]), not due)
         if due:
             raise Refused(due[0], number, len(shape))
-    if sum(block.upper for block in shape) > MOST_CHARACTERS:
+    if total(shape) > MOST_CHARACTERS:
         raise Refused(3, number, 0)
     return tuple(shape)
 
@@ -96,3 +101,16 @@ def agree(what, shape, one, other):
 def pair_of(first, second):
     """The shapes of a pair, refused in document 01's order: the first shape's number is 1, the second's 2."""
     return shape_of(first, 1), shape_of(second, 2)
+
+
+def too_long(front, back):
+    """Whether two texts are too long to be joined, by their uppers."""
+    return total(front) + total(back) > MOST_CHARACTERS
+
+
+def trio_of(first, second, third):
+    """The shapes of a join, refused in document 02's order: 12 follows what is wrong with each shape by itself."""
+    trio = shape_of(first, 1), shape_of(second, 2), shape_of(third, 3)
+    if too_long(*trio[1:]):
+        raise Refused(12, 0, 0)
+    return trio

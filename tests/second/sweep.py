@@ -6,7 +6,7 @@ from making import (
     NUMBER_FILLER, Dice, counted, edge_pairs, hexes, hold_lines_to_room, large_pair, lists_read, numbers_read,
     refused_pairs, small_pair, written,
 )
-from narrow import EQUAL, narrowed_by_rows
+from pairs import EQUAL, narrowed_by_rows
 from shapes import Refused, agree, all_runs, fillings, pair_of, shape_of
 
 # Pairs of shapes with at most so many pairs of fillings are held to every one of them.

@@ -4,13 +4,13 @@ use mathlib.Core.List.{[], _∷_}
 use Prim.Native.Nat.{ℕ}
 use lib.ListN.{getD}
 use Rattle.answers.specs.declared.Refusal.{Refusal}
-use Rattle.answers.specs.declared.Refusal.the-variants.{Length, Crossed, TooLarge, Disagree, Total, Work, Output, Counts, Rule, Line, Size}
+use Rattle.answers.specs.declared.Refusal.the-variants.{Length, Crossed, TooLarge, Disagree, Total, Work, Output, Counts, Rule, Join, Line, Size}
 use Rattle.answers.specs.Told.{Told, told}
 
 -- the refusal that tells n, t and p: the n-th, from 1; what stands before the first is never looked at
 of : ℕ → ℕ → ℕ → Refusal
 of n t p =
-    getD (Size ∷ (Length t ∷ (Crossed t p ∷ (Total t ∷ (Work ∷ (Output t ∷ (Counts ∷ (Rule p ∷ (Line p ∷ (Size ∷ (TooLarge t p ∷ (Disagree t p ∷ [])))))))))))) n
+    getD (Size ∷ (Length t ∷ (Crossed t p ∷ (Total t ∷ (Work ∷ (Output t ∷ (Counts ∷ (Rule p ∷ (Line p ∷ (Size ∷ (TooLarge t p ∷ (Disagree t p ∷ (Join p ∷ []))))))))))))) n
     Size
 
 back : (r : Refusal) → of (told r .number) (told r .text) (told r .place) ≡ r
@@ -24,6 +24,7 @@ back Work = refl
 back (Output o) = refl
 back Counts = refl
 back (Rule k) = refl
+back (Join k) = refl
 back (Line k) = refl
 back Size = refl
 

@@ -1,7 +1,7 @@
--- Document 01, "Numbers given back": each refusal carries a number, a text and a place. This is the paper's table, case by case, with 2, 10 and 11 as in document 02, order 1.
+-- Document 01, "Numbers given back": each refusal carries a number, a text and a place. This is the paper's table, case by case, with 2, 10 and 11 as in document 02, order 1, and 12 as in order 3.
 use Prim.Native.Nat.{ℕ}
 use Rattle.answers.specs.declared.Refusal.{Refusal}
-use Rattle.answers.specs.declared.Refusal.the-variants.{Length, Crossed, TooLarge, Disagree, Total, Work, Output, Counts, Rule, Line, Size}
+use Rattle.answers.specs.declared.Refusal.the-variants.{Length, Crossed, TooLarge, Disagree, Total, Work, Output, Counts, Rule, Join, Line, Size}
 
 pub record Told : Type 0 where
   pub number : ℕ
@@ -21,5 +21,6 @@ told Work = tell 4 0 0
 told (Output output) = tell 5 output 0
 told Counts = tell 6 0 0
 told (Rule rule) = tell 7 0 rule
+told (Join rule) = tell 12 0 rule
 told (Line line) = tell 8 0 line
 told Size = tell 9 0 0

@@ -13,6 +13,7 @@ pub enum Refusal {
     Output(u64),
     Counts,
     Rule(u64),
+    Join(u64),
     Line(u64),
     Size,
 }
@@ -77,6 +78,7 @@ pub fn number(r: Refusal) -> u64
         Refusal::Output(_) => 5,
         Refusal::Counts => 6,
         Refusal::Rule(_) => 7,
+        Refusal::Join(_) => 12,
         Refusal::Line(_) => 8,
         Refusal::Size => 9,
     }
@@ -95,6 +97,7 @@ pub fn text(r: Refusal) -> u64
         Refusal::Output(output) => output,
         Refusal::Counts => 0,
         Refusal::Rule(_) => 0,
+        Refusal::Join(_) => 0,
         Refusal::Line(_) => 0,
         Refusal::Size => 0,
     }
@@ -113,6 +116,7 @@ pub fn place(r: Refusal) -> u64
         Refusal::Output(_) => 0,
         Refusal::Counts => 0,
         Refusal::Rule(rule) => rule,
+        Refusal::Join(rule) => rule,
         Refusal::Line(line) => line,
         Refusal::Size => 0,
     }

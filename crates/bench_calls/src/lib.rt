@@ -75,6 +75,19 @@ pub extern "C" fn wedgeotter_before(
     narrowed(dashed::narrow_before(x, y, work, out_x, out_y))
 }
 
+#[no_mangle]
+pub extern "C" fn wedgeotter_join(
+    x: &[u64],
+    y: &[u64],
+    z: &[u64],
+    work: &mut [u8],
+    out_x: &mut [u64],
+    out_y: &mut [u64],
+    out_z: &mut [u64],
+) -> u64 {
+    narrowed(dashed::narrow_join(x, y, z, work, out_x, out_y, out_z))
+}
+
 // The text's length, and 2000 for none.
 #[no_mangle]
 pub extern "C" fn wedgeotter_common(x: &[u64], y: &[u64], work: &mut [u8], out: &mut [u8]) -> u64 {

@@ -55,11 +55,11 @@ pub fn run_book(counts: &[u64], blocks: &mut [u64], rules: &[u64], work: &mut [u
             pairs::clear(work);
             let n = blocks.len();
             let mut numbers = [0u64; 1024];
-            book_laying::lay(&mut numbers, 0, blocks);
+            laying::lay(&mut numbers, 0, blocks);
             match run_rounds(counts, &mut numbers[..n], rules) {
                 Ended::None(m) => Ran::None(m),
                 Ended::Stable(m) => {
-                    book_laying::lay(blocks, 0, &numbers[..n]);
+                    laying::lay(blocks, 0, &numbers[..n]);
                     Ran::Stable(m)
                 }
             }

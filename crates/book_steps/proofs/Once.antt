@@ -1,114 +1,77 @@
--- One application of a rule, from what narrowing answers for its two texts. Assumes nothing.
-use mathlib.Core.Path.{_≡_, sym, ap, ap₂, _∙_, subst}
-use mathlib.Core.List.{List}
-use Prim.Native.Nat.{ℕ, _*_}
-use lib.ListN.{length, take}
-use lib.Seq.{take-at}
+-- One application of a rule, from what narrowing makes of the texts that it looks at. Assumes nothing.
+use mathlib.Core.Path.{_≡_, refl, sym, ap, _∙_, subst}
+use mathlib.Core.Bool.{Bool, true, false}
+use mathlib.Core.List.{List, [], _∷_}
+use Prim.Native.Nat.{ℕ}
+use native.Mathlib.Omega.{arith}
+use lib.ListN.{length}
 use Rattle.rules.specs.declared.Rule.{Rule}
-use Rattle.shapes.specs.All.{All}
+use Rattle.shapes.specs.All.{All, more}
 use Rattle.shapes.specs.Shape.{Block, Sound, Small}
 use Rattle.shapes.specs.Lent.{Numbers, shapeOf, wordsOf}
-use Rattle.shapes.proofs.All.{all-take, all-drop}
+use Rattle.shapes.proofs.All.{all-take, all-drop, all-append, all-left, all-right}
 use Rattle.shapes.proofs.Lent.{small-bases}
-use Rattle.shapes.proofs.Numbers.{shape-words}
-use Rattle.texts.specs.Kind.{relationOf}
 use Rattle.hulls.specs.Hull.{Hull}
 use Rattle.hulls.proofs.Hull.{hull-within, hull-sound}
 use Rattle.hulls.proofs.Small.{within-small}
-use Rattle.pairs.specs.Narrow.{Narrows}
-use Rattle.book_laying.specs.Laid.{replaced}
-use Rattle.book_laying.proofs.Shapes.{words-bounded, replaced-bounded}
-use Rattle.books.specs.Counts.{countOf, firstOf, shapeIn}
-use Rattle.books.specs.Rules.{RightRule, asks}
-use Rattle.books.specs.Code.{numbersIn}
-use Rattle.book_steps.specs.Step.{Standing}
-use Rattle.book_steps.proofs.Standing.{blocks-sound, text-shape, laidOver, laid-size, laid-first, laid-second, unchanged, laid-same, laid-unchanged, words-first, words-second, words-narrow, standing-next}
+use Rattle.laying.proofs.Shapes.{words-bounded, same-numbers}
+use Rattle.books.specs.Counts.{countOf, firstOf}
+use Rattle.books.specs.Rules.{asks}
+use Rattle.book_steps.specs.Step.{Standing, RuleApplied}
+use Rattle.book_steps.specs.declared.Applied.the-variants.{Same, Changed}
+use Rattle.book_steps.proofs.Parts.{joinAll, partsOf, Sized}
+use Rattle.book_steps.proofs.Frame.{LooksAt, rule-narrows}
+use Rattle.book_steps.proofs.Standing.{blocks-size, blocks-sound, standing-next}
+use Rattle.book_steps.proofs.Laid.{laidAll, laid-size, laid-shape, laid-bounded, Lays, lays-all, lays-tell}
 
-module _ {counts xs : List ℕ} (d : Standing counts xs) (t : Rule) (right : RightRule counts t) where
-  module _ {ox oy ox′ oy′ : List ℕ} (both : Narrows (relationOf (t .kind)) (numbersIn counts xs (t .a)) (numbersIn counts xs (t .b)) ox oy ox′ oy′) where
-    -- the new numbers of the two texts stand at the start of the outputs
-    abbrev pub newA : List ℕ
-    newA = take (countOf counts (t .a) * 4) ox′
+-- what all blocks have, those of some texts have; and what those have together, each text's have
+parts-all : {A : Type 0} {P : A → Type 0} (counts ks : List ℕ) {l : List A} → All P l → All P (joinAll (partsOf counts ks l))
+unfolding joinAll partsOf
+parts-all counts [] a = All.none
+parts-all counts (k ∷ ks) a = all-append (all-take (countOf counts k) (all-drop (firstOf counts k) a)) (parts-all counts ks a)
 
-    abbrev pub newB : List ℕ
-    newB = take (countOf counts (t .b) * 4) oy′
+each-numbers : (H : List (List Block)) → All Small (joinAll H) → All Sound (joinAll H) → All (λ (B : List Block). Numbers (wordsOf B)) H
+unfolding joinAll
+each-numbers [] a b = All.none
+each-numbers (B ∷ H) a b = more (words-bounded (all-left B (joinAll H) a) (all-left B (joinAll H) b)) (each-numbers H (all-right B (joinAll H) a) (all-right B (joinAll H) b))
 
-    words-a : length (wordsOf (both .first)) ≡ countOf counts (t .a) * 4
-    words-a = words-first d t right (both .first) (both .second) (both .size) (both .hull)
+module _ {counts xs : List ℕ} (d : Standing counts xs) {t : Rule} {ks : List ℕ} {Q : List (List ℕ) → Type 0} (look : LooksAt counts t ks Q) {H : List (List Block)} (z : Sized counts ks H)
+    (h : Hull Q (joinAll (partsOf counts ks (shapeOf xs))) (joinAll H)) where
+  -- the numbers of the new shapes, laid back, are what the rule makes of all blocks
+  abbrev pub laid : List ℕ
+  laid = laidAll counts ks H xs
 
-    words-b : length (wordsOf (both .second)) ≡ countOf counts (t .b) * 4
-    words-b = words-second d t right (both .first) (both .second) (both .size) (both .hull)
+  pub applied-hull : Hull (asks counts t) (shapeOf xs) (shapeOf laid)
+  applied-hull = subst (Hull (asks counts t) (shapeOf xs)) (sym (laid-shape counts ks H xs (look .named) z (d .size)))
+      (rule-narrows look (shapeOf xs) (blocks-size d) (blocks-sound d) z h)
 
-    is-a : newA ≡ wordsOf (both .first)
-    is-a = ap (take (countOf counts (t .a) * 4)) (both .first-output) ∙ take-at (wordsOf (both .first)) _ _ words-a
+  applied-size : length laid ≡ length xs
+  applied-size = laid-size counts ks H xs (look .named) z (d .size) ∙ sym (d .size)
 
-    is-b : newB ≡ wordsOf (both .second)
-    is-b = ap (take (countOf counts (t .b) * 4)) (both .second-output) ∙ take-at (wordsOf (both .second)) _ _ words-b
+  pub applied-stands : Standing counts laid
+  applied-stands = standing-next d applied-hull applied-size
 
-    size-a : length newA ≡ countOf counts (t .a) * 4
-    size-a = ap length is-a ∙ words-a
+  -- 64-bit numbers stay such
+  pub applied-words : Numbers xs → Numbers laid
+  applied-words w = laid-bounded counts ks H
+      (each-numbers H (within-small (hull-within h) (parts-all counts ks (small-bases xs w))) (hull-sound h (parts-all counts ks (blocks-sound d)))) w
 
-    size-b : length newB ≡ countOf counts (t .b) * 4
-    size-b = ap length is-b ∙ words-b
+  -- where the blocks are as before, so are the numbers
+  pub applied-same : Numbers xs → shapeOf laid ≡ shapeOf xs → laid ≡ xs
+  applied-same w e = let size = d .size in let long = applied-size in same-numbers laid xs (omega arith) (omega arith) (applied-words w) w e
 
-    -- laid back they are what the rule makes of all blocks
-    abbrev pub laid : List ℕ
-    laid = laidOver d t right newA newB
+  -- laid back text by text, as the code does it, with what it tells on the way
+  module _ (w : Numbers xs) {ys : List ℕ} {s : Bool} (lays : Lays counts ks H xs ys true s) where
+    laid-hull : Hull (asks counts t) (shapeOf xs) (shapeOf ys)
+    laid-hull = subst (λ (l : List ℕ). Hull (asks counts t) (shapeOf xs) (shapeOf l)) (sym (lays-all lays)) applied-hull
 
-    pub applied-size : length laid ≡ length xs
-    applied-size = laid-size d t right newA newB size-a size-b
+    pub says-same : s ≡ true → RuleApplied counts t xs ys Same
+    says-same e =
+        let same : ys ≡ xs = lays-tell (look .named) (look .apart) z (d .size) lays .so e .1 in
+        (subst (λ (l : List ℕ). Hull (asks counts t) (shapeOf xs) (shapeOf l)) same laid-hull, same)
 
-    pub applied-hull : Hull (asks counts t) (shapeOf xs) (shapeOf laid)
-    applied-hull = subst (λ (ys : List ℕ). Hull (asks counts t) (shapeOf xs) (shapeOf ys)) (ap₂ (laidOver d t right) (sym is-a) (sym is-b))
-        (words-narrow d t right (both .first) (both .second) (both .size) (both .hull))
-
-    pub applied-stands : Standing counts laid
-    applied-stands = standing-next d applied-hull applied-size
-
-    pub applied-a : numbersIn counts laid (t .a) ≡ newA
-    applied-a = laid-first d t right newA newB size-a size-b
-
-    pub applied-b : numbersIn counts laid (t .b) ≡ newB
-    applied-b = laid-second d t right newA newB size-a size-b
-
-    -- 64-bit numbers stay such
-    text-words : Numbers xs → (k : ℕ) (X : List Block) → numbersIn counts laid k ≡ wordsOf X → Numbers (wordsOf X)
-    text-words w k X e =
-        let is : shapeIn counts (shapeOf laid) k ≡ X = sym (text-shape applied-stands k) ∙ ap shapeOf e ∙ shape-words X in
-        let small = within-small (hull-within applied-hull) (small-bases xs w) in
-        let sound = hull-sound applied-hull (blocks-sound d) in
-        words-bounded (subst (All Small) is (all-take (countOf counts k) (all-drop (firstOf counts k) small)))
-        (subst (All Sound) is (all-take (countOf counts k) (all-drop (firstOf counts k) sound)))
-
-    pub applied-words : Numbers xs → Numbers laid
-    applied-words w =
-        replaced-bounded (firstOf counts (t .b) * 4) (subst Numbers (sym is-b) (text-words w (t .b) (both .second) (applied-b ∙ is-b)))
-        (replaced-bounded (firstOf counts (t .a) * 4) (subst Numbers (sym is-a) (text-words w (t .a) (both .first) (applied-a ∙ is-a))) w)
-
-    -- where the blocks are as before, so are the numbers of both texts
-    pub applied-unchanged : Numbers xs → shapeOf laid ≡ shapeOf xs → (newA ≡ numbersIn counts xs (t .a)) × (newB ≡ numbersIn counts xs (t .b))
-    applied-unchanged w e = laid-unchanged d t right newA newB size-a size-b w (applied-words w) e
-
-    -- laid back one after the other, as the code does it, with what it compares on the way
-    module _ (w : Numbers xs) {mid ys : List ℕ} (e : mid ≡ replaced (firstOf counts (t .a) * 4) newA xs) (f : ys ≡ replaced (firstOf counts (t .b) * 4) newB mid) where
-      all-laid : ys ≡ laid
-      all-laid = f ∙ ap (replaced (firstOf counts (t .b) * 4) newB) e
-
-      pub laid-hull : Hull (asks counts t) (shapeOf xs) (shapeOf ys)
-      laid-hull = subst (λ (l : List ℕ). Hull (asks counts t) (shapeOf xs) (shapeOf l)) (sym all-laid) applied-hull
-
-      -- where the first text's numbers are the old ones, nothing has been changed before the second's are laid
-      mid-same : newA ≡ numbersIn counts xs (t .a) → mid ≡ xs
-      mid-same h = e ∙ ap (λ (x : List ℕ). replaced (firstOf counts (t .a) * 4) x xs) h ∙ unchanged d t right (t .a) (right .first .from-one)
-
-      pub both-same : numbersIn counts xs (t .a) ≡ newA → numbersIn counts mid (t .b) ≡ newB → ys ≡ xs
-      both-same h g = all-laid ∙ laid-same d t right (sym h) (sym g ∙ ap (λ (l : List ℕ). numbersIn counts l (t .b)) (mid-same (sym h)))
-
-      unchanged-both : shapeOf ys ≡ shapeOf xs → (newA ≡ numbersIn counts xs (t .a)) × (newB ≡ numbersIn counts xs (t .b))
-      unchanged-both q = applied-unchanged w (ap shapeOf (sym all-laid) ∙ q)
-
-      pub first-changed : (numbersIn counts xs (t .a) ≡ newA → ⊥) → shapeOf ys ≡ shapeOf xs → ⊥
-      first-changed n q = n (sym (unchanged-both q .0))
-
-      pub second-changed : (numbersIn counts mid (t .b) ≡ newB → ⊥) → shapeOf ys ≡ shapeOf xs → ⊥
-      second-changed n q = let same = unchanged-both q in n (ap (λ (l : List ℕ). numbersIn counts l (t .b)) (mid-same (same .0)) ∙ sym (same .1))
+    pub says-changed : s ≡ false → RuleApplied counts t xs ys Changed
+    says-changed e = (
+      laid-hull,
+      λ q. lays-tell (look .named) (look .apart) z (d .size) lays .not-so e (refl, lays-all lays ∙ applied-same w (ap shapeOf (sym (lays-all lays)) ∙ q)),
+    )

@@ -1,15 +1,17 @@
 -- What the runner carries between two applications, and what one application does to it.
 use mathlib.Core.Path.{_≡_}
-use mathlib.Core.List.{List}
+use mathlib.Core.List.{List, [], _∷_}
 use Prim.Native.Nat.{ℕ, _*_, _≤_}
 use lib.ListN.{length}
-use Rattle.rules.specs.Rule.{ruleCount}
+use Rattle.rules.specs.declared.Rule.{Rule}
+use Rattle.rules.specs.Rule.{ruleAt, ruleCount}
 use Rattle.shapes.specs.All.{All}
 use Rattle.shapes.specs.Lent.{shapeOf}
 use Rattle.hulls.specs.Hull.{None, Hull}
-use Rattle.books.specs.Counts.{sumOf, RightCount}
-use Rattle.books.specs.Rules.{ruleOf}
-use Rattle.books.specs.Refused.{SoundTexts, RightRules}
+use Rattle.laying.specs.Laid.{replaced}
+use Rattle.books.specs.Counts.{sumOf, RightCount, firstOf}
+use Rattle.books.specs.Rules.{asks}
+use Rattle.books.specs.Refused.{SoundTexts, SoundRules}
 use Rattle.shapes.specs.Shape.{blockSize}
 use Rattle.book_steps.specs.declared.Applied.{Applied}
 use Rattle.book_steps.specs.declared.Applied.the-variants.{None as no-choice, Same, Changed}
@@ -29,10 +31,20 @@ pub record Texts (counts xs : List ℕ) : Type 0 where
 pub record Running (counts xs rules : List ℕ) : Type 0 where
   pub texts : Texts counts xs
   pub few-rules : ruleCount rules ≤ 16
-  pub right : RightRules counts rules
+  pub right : SoundRules counts (shapeOf xs) rules
 
--- One application of rule j: the numbers before and after it.
+-- New numbers of the texts ks laid over their old ones, text by text.
+unfoldable pub laidOver : List ℕ → List ℕ → List (List ℕ) → List ℕ → List ℕ
+laidOver counts [] news xs = xs
+laidOver counts (k ∷ ks) [] xs = xs
+laidOver counts (k ∷ ks) (x ∷ news) xs = laidOver counts ks news (replaced (firstOf counts k * blockSize) x xs)
+
+-- One application of the rule t: the numbers before and after it.
+abbrev pub RuleApplied : List ℕ → Rule → List ℕ → List ℕ → Applied → Type 0
+RuleApplied counts t xs ys no-choice = None (asks counts t) (shapeOf xs)
+RuleApplied counts t xs ys Same = Hull (asks counts t) (shapeOf xs) (shapeOf xs) × (ys ≡ xs)
+RuleApplied counts t xs ys Changed = Hull (asks counts t) (shapeOf xs) (shapeOf ys) × (shapeOf ys ≡ shapeOf xs → ⊥)
+
+-- Of rule j, from 0.
 abbrev pub AppliedSays : List ℕ → List ℕ → ℕ → List ℕ → List ℕ → Applied → Type 0
-AppliedSays counts rules j xs ys no-choice = None (ruleOf counts rules j) (shapeOf xs)
-AppliedSays counts rules j xs ys Same = Hull (ruleOf counts rules j) (shapeOf xs) (shapeOf xs) × (ys ≡ xs)
-AppliedSays counts rules j xs ys Changed = Hull (ruleOf counts rules j) (shapeOf xs) (shapeOf ys) × (shapeOf ys ≡ shapeOf xs → ⊥)
+AppliedSays counts rules j xs ys r = RuleApplied counts (ruleAt rules j) xs ys r

@@ -1,5 +1,7 @@
 -- The laws of a book and its refusals.
 pub mod Sums
 pub mod Part
-pub mod Tell
+pub mod Fourth
 pub mod Refused
+pub mod Tell
+pub mod Joinable

@@ -5,7 +5,7 @@ use Prim.Native.Nat.{ℕ, _-_, _*_}
 use native.Mathlib.Omega.{arith}
 use lib.ListN.{take, drop}
 use Rattle.shapes.specs.Lent.{shapeOf}
-use Rattle.book_laying.proofs.Shapes.{shape-part}
+use Rattle.laying.proofs.Shapes.{shape-part}
 use Rattle.books.specs.declared.Place.{Place}
 use Rattle.books.specs.Counts.{countOf, firstOf, shapeIn}
 use Rattle.books.specs.Code.{PlaceOf, numbersIn}

@@ -1,5 +1,5 @@
--- What the texts that a check has passed say of all. Assumes nothing.
-use mathlib.Core.Path.{_≡_, sym, subst}
+-- What the texts, and the rules, that a check has passed say of all. Assumes nothing.
+use mathlib.Core.Path.{_≡_, refl, sym, subst}
 use mathlib.Core.List.{List}
 use mathlib.Core.Logic.{⊎-elim}
 use Prim.Native.Nat.{ℕ, _+_, _-_, _<_}
@@ -8,11 +8,15 @@ use lib.ListN.{length}
 use Rattle.bases.proofs.Plain.{lt-or-le}
 use Rattle.shapes.specs.Shape.{Block}
 use Rattle.answers.specs.Told.{Told}
+use Rattle.rules.specs.Rule.{ruleAt, ruleCount}
 use Rattle.shapes.specs.Lent.{BlocksRefused}
 use Rattle.shapes.proofs.Refused.{blocks-not}
 use Rattle.books.specs.Counts.{shapeIn, SoundText}
 use Rattle.books.specs.Rules.{Names}
-use Rattle.books.specs.Refused.{SoundTexts, FirstText}
+use Rattle.books.specs.Refused.{SoundTexts, FirstText, SoundRule, RuleRefused, FirstRule}
+use Rattle.books.proofs.Refused.{rule-not}
+
+-- ---- the texts
 
 -- the texts before text k are sound
 abbrev pub SoundBefore : List ℕ → List Block → ℕ → Type 0
@@ -44,3 +48,10 @@ first-text counts S k {t} n f r =
 
 pub all-texts : (counts : List ℕ) (S : List Block) (k : ℕ) → length counts < k → SoundBefore counts S k → SoundTexts counts S
 all-texts counts S k h f = record { each = λ i n. f i n (let w = n .within in omega arith) }
+
+-- ---- the rules
+
+-- where those before it are sound, a rule that is refused is the first
+pub first-rule : (counts : List ℕ) (S : List Block) (rules : List ℕ) (j : ℕ) {u : Told} → j < ruleCount rules → ((i : ℕ) → i < j → SoundRule counts S (ruleAt rules i))
+    → RuleRefused counts S (j + 1) (ruleAt rules j) u → FirstRule counts S rules (j + 1) u
+first-rule counts S rules j w g r = record { first = record { before = j; place = refl; within = w; good = g; bad = rule-not r }; refused = r }

@@ -18,7 +18,7 @@ pub record RightCount (c : ℕ) : Type 0 where
   pub few : c ≤ 32
 
 -- Otherwise refusal 6: texts are 1 to 8, a block count is 1 to 32, the numbers given for blocks are four times the sum of the counts,
--- and the rules are whole triples and not over 16.
+-- and the rules are whole fours and not over 16.
 pub record RightCounts (counts blocks rules : List ℕ) : Type 0 where
   pub some-texts : 1 ≤ length counts
   pub few-texts : length counts ≤ 8

@@ -3,18 +3,16 @@ use answers::Checked;
 use answers::Refusal;
 use rules::Rule;
 ghost use mathlib.Core.Path.{_≡_};
-ghost use Prim.Native.Nat.{_*_, _≤_, _<_};
+ghost use Prim.Native.Nat.{_*_, _≤_};
 ghost use lib.ListN.{length, take};
 ghost use Rattle.bases.specs.Tells.{Tells};
 ghost use Rattle.shapes.specs.All.{All};
 ghost use Rattle.shapes.specs.Lent.{shapeOf, BlocksChecked};
 ghost use Rattle.books.specs.Counts.{sumOf, RightCount, RightCounts, shapeIn};
-ghost use Rattle.rules.specs.Rule.{ruleAt, ruleCount};
-ghost use Rattle.shapes.specs.FirstBad.{UpTo};
-ghost use Rattle.shapes.specs.Shape.{blockSize};
-ghost use Rattle.books.specs.Rules.{Names, RightRule};
+ghost use Rattle.shapes.specs.Shape.{blockSize, total};
+ghost use Rattle.books.specs.Rules.{Names, RightFourth, RightRule, Joinable};
 ghost use Rattle.books.specs.Refused.{BookChecked};
-ghost use Rattle.books.specs.Code.{PlaceOf, TextsChecked};
+ghost use Rattle.books.specs.Code.{PlaceOf, TextsChecked, KnownTexts, RuleChecked, RulesChecked};
 
 // Where the numbers of a text begin, and where they end.
 pub struct Place {
@@ -144,11 +142,30 @@ fn names(counts: &[u64], k: u64) -> bool
     true
 }
 
+// Whether a rule's fourth number is right: in a join a third text, else 0.
+fn right_fourth(counts: &[u64], rule: Rule) -> bool
+    ensures { λ r. ⌜ Tells r (RightFourth (now (counts .entry)) rule) ⌝ }
+{
+    if rule.kind != rules::JOIN {
+        return rule.c == 0;
+    }
+    if !names(counts, rule.c) {
+        return false;
+    }
+    if rule.a == rule.c {
+        return false;
+    }
+    if rule.b == rule.c {
+        return false;
+    }
+    true
+}
+
 // Whether a rule is right. The numbers may be any.
 fn right_rule(counts: &[u64], rule: Rule) -> bool
     ensures { λ r. ⌜ Tells r (RightRule (now (counts .entry)) rule) ⌝ }
 {
-    if 2 < rule.kind {
+    if 3 < rule.kind {
         return false;
     }
     if !names(counts, rule.a) {
@@ -160,26 +177,75 @@ fn right_rule(counts: &[u64], rule: Rule) -> bool
     if rule.a == rule.b {
         return false;
     }
+    if !right_fourth(counts, rule) {
+        return false;
+    }
     true
 }
 
-// How many rules are right before the first that is wrong.
-fn right_rules(counts: &[u64], rules: &[u64]) -> usize
-    ensures { λ r. ⌜ UpTo (ruleCount (now (rules .entry))) (λ j. RightRule (now (counts .entry)) (ruleAt (now (rules .entry)) j)) r ⌝ }
+// The uppers of text k, added.
+fn upper_of(counts: &[u64], blocks: &[u64], k: usize) -> u64
+    requires { ⌜ KnownTexts (now counts) (now blocks) ⌝ }
+    requires { ⌜ Names (now counts) k ⌝ }
+    ensures { λ r. ⌜ r ≡ total (shapeIn (now (counts .entry)) (shapeOf (now (blocks .entry))) k) ⌝ }
+{
+    let place = place_of(counts, k);
+    let from = place.from;
+    let to = place.to;
+    shapes::total_upper(&blocks[from..to])
+}
+
+// Whether a right rule, if it is a join, joins texts that are short enough. Each is of at most 250, so the sum fits.
+fn short_join(counts: &[u64], blocks: &[u64], rule: Rule) -> bool
+    requires { ⌜ KnownTexts (now counts) (now blocks) ⌝ }
+    requires { ⌜ RightRule (now counts) rule ⌝ }
+    ensures { λ r. ⌜ Tells r (Joinable (now (counts .entry)) (shapeOf (now (blocks .entry))) rule) ⌝ }
+{
+    if rule.kind != rules::JOIN {
+        return true;
+    }
+    let second = upper_of(counts, blocks, rule.b as usize);
+    let third = upper_of(counts, blocks, rule.c as usize);
+    if 250 < second + third {
+        return false;
+    }
+    true
+}
+
+// The refusals of rule number `place`: 7, then 12.
+fn check_rule(counts: &[u64], blocks: &[u64], rule: Rule, place: u64) -> Checked
+    requires { ⌜ KnownTexts (now counts) (now blocks) ⌝ }
+    ensures { λ r. ⌜ RuleChecked (now (counts .entry)) (shapeOf (now (blocks .entry))) place rule r ⌝ }
+{
+    if !right_rule(counts, rule) {
+        return Checked::Refused(Refusal::Rule(place));
+    }
+    if !short_join(counts, blocks, rule) {
+        return Checked::Refused(Refusal::Join(place));
+    }
+    Checked::Sound
+}
+
+// The same, rule by rule.
+fn check_rules(counts: &[u64], blocks: &[u64], rules: &[u64]) -> Checked
+    requires { ⌜ KnownTexts (now counts) (now blocks) ⌝ }
+    ensures { λ r. ⌜ RulesChecked (now (counts .entry)) (shapeOf (now (blocks .entry))) (now (rules .entry)) r ⌝ }
 {
     let n = rules.len() / rules::SIZE;
     let mut j = 0;
     while j < n {
         let rule = rules::rule_at(rules, j);
-        if !right_rule(counts, rule) {
-            return j;
+        match check_rule(counts, blocks, rule, j as u64 + 1) {
+            Checked::Refused(r) => return Checked::Refused(r),
+            Checked::Sound => {
+                j += 1;
+            }
         }
-        j += 1;
     }
-    n
+    Checked::Sound
 }
 
-// Whether a book is accepted, for a work buffer of `room` bytes: refusals 6, those of the texts, 7 and 4, in this order.
+// Whether a book is accepted, for a work buffer of `room` bytes: refusals 6, those of the texts, those of the rules, and 4, in this order.
 pub fn check_book(counts: &[u64], blocks: &[u64], rules: &[u64], room: usize) -> Checked
     ensures { λ r. ⌜ BookChecked (now (counts .entry)) (now (blocks .entry)) (now (rules .entry)) room r ⌝ }
 {
@@ -188,15 +254,14 @@ pub fn check_book(counts: &[u64], blocks: &[u64], rules: &[u64], room: usize) ->
     }
     match check_texts(counts, blocks) {
         Checked::Refused(r) => Checked::Refused(r),
-        Checked::Sound => {
-            let right = right_rules(counts, rules);
-            if right < rules.len() / rules::SIZE {
-                return Checked::Refused(Refusal::Rule(right as u64 + 1));
+        Checked::Sound => match check_rules(counts, blocks, rules) {
+            Checked::Refused(r) => Checked::Refused(r),
+            Checked::Sound => {
+                if room < 63001 {
+                    return Checked::Refused(Refusal::Work);
+                }
+                Checked::Sound
             }
-            if room < 63001 {
-                return Checked::Refused(Refusal::Work);
-            }
-            Checked::Sound
-        }
+        },
     }
 }

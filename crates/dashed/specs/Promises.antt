@@ -1,4 +1,4 @@
--- What each call of document 01 promises. Each promise is a relation between what is lent, what is answered and what is lent back.
+-- What each call of documents 01 and 02 promises. Each promise is a relation between what is lent, what is answered and what is lent back.
 use mathlib.Core.Path.{_≡_}
 use mathlib.Core.List.{List}
 use Prim.Native.Nat.{ℕ}
@@ -16,6 +16,7 @@ use Rattle.extremes.specs.Extreme.{ExtremePromise}
 use Rattle.file_runs.specs.Promise.{FilePromise}
 use Rattle.fitting.specs.Fit.{FitPromise}
 use Rattle.sweep_calls.specs.Sweep.{SweepPromise}
+use Rattle.joins.specs.Join.{JoinPromise}
 use Rattle.pairs.specs.Narrow.{NarrowPromise}
 use Rattle.shapes.specs.Lent.{ShapeChecked}
 use Rattle.texts.specs.Order.{AtMost, Before}
@@ -54,6 +55,10 @@ NarrowAtMost xs ys work ox oy work′ ox′ oy′ r = NarrowPromise AtMost xs ys
 
 abbrev pub NarrowBefore : List ℕ → List ℕ → List ℕ → List ℕ → List ℕ → List ℕ → List ℕ → List ℕ → Narrowed → Type 0
 NarrowBefore xs ys work ox oy work′ ox′ oy′ r = NarrowPromise Before xs ys work ox oy work′ ox′ oy′ r
+
+-- narrowing a join (document 02, order 3): the text of xs is that of ys followed by that of zs; lent work, and three outputs
+abbrev pub NarrowJoin : List ℕ → List ℕ → List ℕ → List ℕ → List ℕ → List ℕ → List ℕ → List ℕ → List ℕ → List ℕ → List ℕ → Narrowed → Type 0
+NarrowJoin xs ys zs work ox oy oz work′ ox′ oy′ oz′ r = JoinPromise xs ys zs work ox oy oz work′ ox′ oy′ oz′ r
 
 -- the earliest common text of xs and ys (document 02, order 2): lent work and one output; with ′ they are as handed back
 abbrev pub CommonText : List ℕ → List ℕ → List ℕ → List ℕ → List ℕ → List ℕ → Shown → Type 0

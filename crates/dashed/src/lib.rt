@@ -7,7 +7,7 @@ use answers::Ran;
 use answers::Shown;
 use answers::Swept;
 use answers::Written;
-ghost use Rattle.dashed.specs.Promises.{CheckShape, FitsShape, Earlier, LeastText, GreatestText, Sweep, NarrowEqual, NarrowAtMost, NarrowBefore, CommonText, RunBook, RunFile};
+ghost use Rattle.dashed.specs.Promises.{CheckShape, FitsShape, Earlier, LeastText, GreatestText, Sweep, NarrowEqual, NarrowAtMost, NarrowBefore, NarrowJoin, CommonText, RunBook, RunFile};
 
 // Checks a shape, lent as 64-bit numbers, four to a block.
 pub fn check_shape(shape: &[u64]) -> Checked
@@ -95,6 +95,24 @@ pub fn narrow_before(
     kinds::narrow(2, x, y, work, out_x, out_y)
 }
 
+// Exact narrowing of a join, the text of x being that of y followed by that of z: none exactly if no three fillings are so; otherwise each block of the three
+// outputs keeps exactly the characters, and the least and greatest count, that some such triple gives it. The uppers of y and z may add to at most 250 (12). It
+// takes a work buffer of at least 63,001 bytes.
+pub fn narrow_join(
+    x: &[u64],
+    y: &[u64],
+    z: &[u64],
+    work: &mut [u8],
+    out_x: &mut [u64],
+    out_y: &mut [u64],
+    out_z: &mut [u64],
+) -> Narrowed
+    ensures { λ r. ⌜ NarrowJoin (now (x .entry)) (now (y .entry)) (now (z .entry)) (now (work .entry)) (now («out_x» .entry)) (now («out_y» .entry)) (now («out_z» .entry))
+        (now (work .exit)) (now («out_x» .exit)) (now («out_y» .exit)) (now («out_z» .exit)) r ⌝ }
+{
+    joins::narrow(x, y, z, work, out_x, out_y, out_z)
+}
+
 // The earliest text that fits both x and y, into an output of at least 250 bytes; its length; or that no text fits both. It takes a work buffer of at least
 // 63,001 bytes.
 pub fn common_text(x: &[u64], y: &[u64], work: &mut [u8], out: &mut [u8]) -> Shown
@@ -103,7 +121,7 @@ pub fn common_text(x: &[u64], y: &[u64], work: &mut [u8], out: &mut [u8]) -> Sho
     common_calls::common_text(x, y, work, out)
 }
 
-// Runs a book of rules: the texts' block counts, all their blocks end to end, the rules as triples (kind, a, b). The final shapes are left in the blocks; on none
+// Runs a book of rules: the texts' block counts, all their blocks end to end, the rules as fours (kind, a, b, c), c being 0 except in a join. The final shapes are left in the blocks; on none
 // they are as on entry. It hands back the applications made and takes a work buffer of at least 63,001 bytes.
 pub fn run_book(counts: &[u64], blocks: &mut [u64], rules: &[u64], work: &mut [u8]) -> Ran
     ensures { λ r. ⌜ RunBook (now (counts .entry)) (now (blocks .entry)) (now (rules .entry)) (now (work .entry)) (now (blocks .exit)) (now (work .exit)) r ⌝ }

@@ -1,141 +1,159 @@
--- A call on two texts of a book is one application of the rule to all blocks, and every application is such a call. Assumes nothing.
-use mathlib.Core.Path.{_≡_, refl, sym, ap₂, _∙_, subst}
-use mathlib.Core.List.{List, _++_}
+-- A call on the texts of a rule is one application of the rule to all blocks, and every application is such a call. Assumes nothing.
+use mathlib.Core.Path.{_≡_, refl, sym, ap₂, subst}
+use mathlib.Core.List.{List, [], _∷_, _++_}
+use mathlib.Core.Logic.{⊎-elim}
 use Prim.Native.Nat.{ℕ, zero, suc, _≤_}
 use native.Mathlib.Omega.{arith}
 use lib.ListN.{length, drop}
+use Rattle.bases.proofs.Plain.{eq-or-ne}
 use Rattle.answers.specs.declared.Narrowed.{Narrowed}
-use Rattle.answers.specs.declared.Narrowed.the-variants.{Narrow, None as no-pair}
+use Rattle.answers.specs.declared.Narrowed.the-variants.{Narrow, None as no-choice}
 use Rattle.rules.specs.declared.Rule.{Rule}
 use Rattle.shapes.specs.All.{All}
-use Rattle.shapes.specs.Shape.{Block, noBlock}
+use Rattle.shapes.specs.Shape.{Block}
 use Rattle.shapes.specs.Lent.{Numbers, shapeOf, wordsOf}
-use Rattle.shapes.proofs.Lent.{shape-length}
-use Rattle.hulls.specs.Hull.{None, Hull, Pairs}
+use Rattle.hulls.specs.Hull.{None, Hull}
 use Rattle.hulls.proofs.Hull.{one-hull}
-use Rattle.texts.specs.Kind.{relationOf, lastKind}
-use Rattle.pairs.specs.Pair.{PairAccepted}
-use Rattle.pairs.specs.Narrow.{Narrows, NarrowPromise, Accepts, cleared}
-use Rattle.books.specs.Counts.{RightCount, countOf, shapeIn}
+use Rattle.texts.specs.Kind.{relationOf, joinKind, OfTwo}
+use Rattle.pairs.specs.Narrow.{NarrowPromise, Accepts, cleared}
+use Rattle.joins.specs.Join.{JoinAccepts}
+use Rattle.books.specs.Counts.{RightCount}
 use Rattle.books.specs.Rules.{RightRule, asks}
+use Rattle.books.specs.Refused.{SoundRule}
 use Rattle.books.specs.Code.{numbersIn}
-use Rattle.book_steps.specs.Step.{Standing}
-use Rattle.book_steps.proofs.Frame.{first-size, rule-narrows-back, rule-none-back}
-use Rattle.book_steps.proofs.Standing.{blocks-size, blocks-sound, text-shape, text-size, text-accepted, laid-same, words-none}
-use Rattle.book_steps.proofs.Once.{applied-hull, applied-stands, applied-words, applied-unchanged}
-use Rattle.demands.specs.Calls.{CallOf, Call, after, Leaves}
+use Rattle.book_steps.specs.Step.{Standing, laidOver}
+use Rattle.book_steps.proofs.Parts.{joinAll, partOf, partsOf, Sized}
+use Rattle.book_steps.proofs.Frame.{LooksAt}
+use Rattle.book_steps.proofs.Laid.{laidAll}
+use Rattle.book_steps.proofs.Looks.{two-looks, three-looks}
+use Rattle.book_steps.proofs.Standing.{text-accepted}
+use Rattle.book_steps.proofs.Once.{applied-hull, applied-stands, applied-words, applied-same}
+use Rattle.book_steps.proofs.Narrowed.{new-words, two-none, two-none-back, first-of-two, second-of-two, two-sized, two-hull, two-back, three-accepted, three-none, three-none-back, first-of-three, second-of-three, third-of-three, three-sized, three-hull, three-back}
+use Rattle.demands.specs.Calls.{CallOf, Call, on-two, on-three, after, Leaves}
 
--- ---- the calls are narrowing under the relation of the kind
+-- ---- the calls on two texts are narrowing under the relation of the kind
 
 call-narrows : (k : ℕ) (xs ys work ox oy work′ ox′ oy′ : List ℕ) (r : Narrowed) → CallOf k xs ys work ox oy work′ ox′ oy′ r
-    → NarrowPromise (relationOf k) xs ys work ox oy work′ ox′ oy′ r
+    → (k ≡ joinKind → ⊥) × NarrowPromise (relationOf k) xs ys work ox oy work′ ox′ oy′ r
 unfolding relationOf
-call-narrows zero xs ys work ox oy work′ ox′ oy′ r p = p
-call-narrows (suc zero) xs ys work ox oy work′ ox′ oy′ r p = p
-call-narrows (suc (suc zero)) xs ys work ox oy work′ ox′ oy′ r p = p
+call-narrows zero xs ys work ox oy work′ ox′ oy′ r p = (λ (e : _≡_ {A = ℕ} 0 3). omega arith, p)
+call-narrows (suc zero) xs ys work ox oy work′ ox′ oy′ r p = (λ (e : _≡_ {A = ℕ} 1 3). omega arith, p)
+call-narrows (suc (suc zero)) xs ys work ox oy work′ ox′ oy′ r p = (λ (e : _≡_ {A = ℕ} 2 3). omega arith, p)
 call-narrows (suc (suc (suc k))) xs ys work ox oy work′ ox′ oy′ r p = absurd p
 
-narrows-call : (k : ℕ) → k ≤ lastKind → (xs ys work ox oy work′ ox′ oy′ : List ℕ) (r : Narrowed) → NarrowPromise (relationOf k) xs ys work ox oy work′ ox′ oy′ r
+narrows-call : (k : ℕ) → OfTwo k → (xs ys work ox oy work′ ox′ oy′ : List ℕ) (r : Narrowed) → NarrowPromise (relationOf k) xs ys work ox oy work′ ox′ oy′ r
     → CallOf k xs ys work ox oy work′ ox′ oy′ r
 unfolding relationOf
 narrows-call zero h xs ys work ox oy work′ ox′ oy′ r p = p
 narrows-call (suc zero) h xs ys work ox oy work′ ox′ oy′ r p = p
 narrows-call (suc (suc zero)) h xs ys work ox oy work′ ox′ oy′ r p = p
-narrows-call (suc (suc (suc k))) h xs ys work ox oy work′ ox′ oy′ r p = absurd (omega arith)
+narrows-call (suc (suc (suc k))) h xs ys work ox oy work′ ox′ oy′ r p = absurd (let most = h .known in let no-join = h .no-join in omega arith)
 
 module _ {counts xs : List ℕ} (d : Standing counts xs) (t : Rule) (right : RightRule counts t) where
   -- ---- from a call to an application
 
-  promised : (r : Narrowed) (c : Call counts t xs r) → NarrowPromise (relationOf (t .kind)) (numbersIn counts xs (t .a)) (numbersIn counts xs (t .b))
-      (c .work) (c .out-a) (c .out-b) (c .work′) (c .out-a′) (c .out-b′) r
-  promised r c = call-narrows (t .kind) _ _ (c .work) (c .out-a) (c .out-b) (c .work′) (c .out-a′) (c .out-b′) r (c .permitted)
+  -- what a call leaves: a hull, a sound shape for each text, and 64-bit numbers
+  record Does (ys : List ℕ) : Type 0 where
+    hull : Hull (asks counts t) (shapeOf xs) (shapeOf ys)
+    stands : Standing counts ys
+    words : Numbers xs → Numbers ys
+    unchanged : Numbers xs → shapeOf ys ≡ shapeOf xs → ys ≡ xs
 
-  module _ (c : Call counts t xs Narrow) where
-    both : Narrows (relationOf (t .kind)) (numbersIn counts xs (t .a)) (numbersIn counts xs (t .b)) (c .out-a) (c .out-b) (c .out-a′) (c .out-b′)
-    both = promised Narrow c .1
+  laid-does : {ks : List ℕ} {Q : List (List ℕ) → Type 0} {H : List (List Block)} → LooksAt counts t ks Q → Sized counts ks H
+      → Hull Q (joinAll (partsOf counts ks (shapeOf xs))) (joinAll H)
+      → Does (laidAll counts ks H xs)
+  laid-does look z h = record { hull = applied-hull d look z h; stands = applied-stands d look z h; words = applied-words d look z h; unchanged = applied-same d look z h }
 
-    pub call-hull : Hull (asks counts t) (shapeOf xs) (shapeOf (after counts t xs c))
-    call-hull = applied-hull d t right both
+  call-does : (c : Call counts t xs Narrow) → Does (after counts t xs c)
+  unfolding after
+  call-does (on-two work oa ob work′ oa′ ob′ p) =
+      let q = call-narrows (t .kind) _ _ work oa ob work′ oa′ ob′ Narrow p in
+      let n = q .1 .1 in
+      let new = ap₂ (λ (x y : List ℕ). laidOver counts (t .a ∷ (t .b ∷ [])) (x ∷ (y ∷ [])) xs)
+      (new-words d (t .a) _ (n .first) (first-of-two d t right (q .0) n) (n .first-output)) (new-words d (t .b) _ (n .second) (second-of-two d t right (q .0) n) (n .second-output)) in
+      subst Does (sym new) (laid-does (two-looks counts t right (q .0)) (two-sized d t right (q .0) n) (two-hull d t right (q .0) n))
+  call-does (on-three e work oa ob oc work′ oa′ ob′ oc′ p) =
+      let n = p .1 in
+      let first = new-words d (t .a) _ (n .first) (first-of-three d t right e n) (n .first-output) in
+      let second = new-words d (t .b) _ (n .second) (second-of-three d t right e n) (n .second-output) in
+      let third = new-words d (t .c) _ (n .third) (third-of-three d t right e n) (n .third-output) in
+      subst Does (λ i. laidOver counts (t .a ∷ (t .b ∷ (t .c ∷ []))) (sym first i ∷ (sym second i ∷ (sym third i ∷ []))) xs)
+      (laid-does (three-looks counts t right e) (three-sized d t right e n) (three-hull d t right e n))
 
-    pub call-stands : Standing counts (after counts t xs c)
-    call-stands = applied-stands d t right both
+  pub call-hull : (c : Call counts t xs Narrow) → Hull (asks counts t) (shapeOf xs) (shapeOf (after counts t xs c))
+  call-hull c = call-does c .hull
 
-    pub call-words : Numbers xs → Numbers (after counts t xs c)
-    call-words w = applied-words d t right both w
+  pub call-stands : (c : Call counts t xs Narrow) → Standing counts (after counts t xs c)
+  call-stands c = call-does c .stands
 
-  pub call-none : Call counts t xs no-pair → None (asks counts t) (shapeOf xs)
-  call-none c = words-none d t right (promised no-pair c .1 .none)
+  pub call-words : (c : Call counts t xs Narrow) → Numbers xs → Numbers (after counts t xs c)
+  call-words c = call-does c .words
 
-  -- a call that answers with both shapes as they are changes nothing
-  leaves-after : (l : Leaves counts t xs) → after counts t xs (l .call) ≡ xs
-  leaves-after l = laid-same d t right (l .same-a) (l .same-b)
+  pub call-none : Call counts t xs no-choice → None (asks counts t) (shapeOf xs)
+  call-none (on-two work oa ob work′ oa′ ob′ p) = let q = call-narrows (t .kind) _ _ work oa ob work′ oa′ ob′ no-choice p in two-none d t right (q .0) (q .1 .1 .none)
+  call-none (on-three e work oa ob oc work′ oa′ ob′ oc′ p) = three-none d t right e (p .1 .none)
 
+  -- a call that answers with the shapes as they are changes nothing
   pub leaves-hull : Leaves counts t xs → Hull (asks counts t) (shapeOf xs) (shapeOf xs)
-  leaves-hull l = subst (λ (ys : List ℕ). Hull (asks counts t) (shapeOf xs) (shapeOf ys)) (leaves-after l) (call-hull (l .call))
+  leaves-hull l = subst (λ (ys : List ℕ). Hull (asks counts t) (shapeOf xs) (shapeOf ys)) (l .same) (call-hull (l .call))
 
-  -- ---- from an application to a call, with whatever work buffer has the room
+-- ---- from an application to a call, with whatever work buffer has the room; the outputs lent are copies of the shapes
 
-  module _ (each : All RightCount counts) (w : Numbers xs) (work : List ℕ) (room : 63001 ≤ length work) where
-    accepted : PairAccepted (numbersIn counts xs (t .a)) (numbersIn counts xs (t .b))
-    accepted = record { first = text-accepted d each (t .a) (right .first); second = text-accepted d each (t .b) (right .second) }
+module _ {counts xs : List ℕ} (d : Standing counts xs) (t : Rule) (sound : SoundRule counts (shapeOf xs) t) (each : All RightCount counts) (work : List ℕ) (room : 63001 ≤ length work) where
+  abbrev right : RightRule counts t
+  right = sound .right
 
-    -- the outputs lent are copies of the shapes
-    accepts : Accepts (numbersIn counts xs (t .a)) (numbersIn counts xs (t .b)) work (numbersIn counts xs (t .a)) (numbersIn counts xs (t .b)) (cleared 63001 work)
-    accepts = record { shapes = accepted; room = record { work = room; first = omega arith; second = omega arith }; work-cleared = refl }
+  abbrev a : List ℕ
+  a = numbersIn counts xs (t .a)
 
-    count-a : length (shapeOf (numbersIn counts xs (t .a))) ≡ countOf counts (t .a)
-    count-a = shape-length (numbersIn counts xs (t .a)) ∙ (let e = text-size d (t .a) (right .first .from-one) in omega arith)
+  abbrev b : List ℕ
+  b = numbersIn counts xs (t .b)
 
-    pub none-call : None (asks counts t) (shapeOf xs) → Call counts t xs no-pair
-    none-call n = record {
-      work = work;
-      out-a = numbersIn counts xs (t .a);
-      out-b = numbersIn counts xs (t .b);
-      work′ = cleared 63001 work;
-      out-a′ = numbersIn counts xs (t .a);
-      out-b′ = numbersIn counts xs (t .b);
-      permitted = narrows-call (t .kind) (right .known) _ _ work _ _ (cleared 63001 work) _ _ no-pair (accepts, record { none = alone; first-output = refl; second-output = refl });
-    }
-      where
-        alone : None (Pairs (relationOf (t .kind)) (length (shapeOf (numbersIn counts xs (t .a))))) (shapeOf (numbersIn counts xs (t .a)) ++ shapeOf (numbersIn counts xs (t .b)))
-        alone = subst (λ (n : ℕ). None (Pairs (relationOf (t .kind)) n) (shapeOf (numbersIn counts xs (t .a)) ++ shapeOf (numbersIn counts xs (t .b)))) (sym count-a)
-            (subst (None (Pairs (relationOf (t .kind)) (countOf counts (t .a)))) (ap₂ _++_ (sym (text-shape d (t .a))) (sym (text-shape d (t .b))))
-            (rule-none-back counts (shapeOf xs) t (blocks-size d) right (blocks-sound d) n))
+  abbrev c : List ℕ
+  c = numbersIn counts xs (t .c)
 
-    module _ {J : List Block} (h : Hull (asks counts t) (shapeOf xs) J) where
-      new : Narrows (relationOf (t .kind)) (numbersIn counts xs (t .a)) (numbersIn counts xs (t .b)) (numbersIn counts xs (t .a)) (numbersIn counts xs (t .b))
-          (wordsOf (shapeIn counts J (t .a)) ++ drop (length (numbersIn counts xs (t .a))) (numbersIn counts xs (t .a)))
-          (wordsOf (shapeIn counts J (t .b)) ++ drop (length (numbersIn counts xs (t .b))) (numbersIn counts xs (t .b)))
-      new = record {
-        first = shapeIn counts J (t .a);
-        second = shapeIn counts J (t .b);
-        size = first-size counts t right noBlock J (h .size ∙ blocks-size d) ∙ sym count-a;
-        hull = subst (λ (n : ℕ). Hull (Pairs (relationOf (t .kind)) n) (shapeOf (numbersIn counts xs (t .a)) ++ shapeOf (numbersIn counts xs (t .b))) (shapeIn counts J (t .a) ++ shapeIn counts J (t .b))) (sym count-a)
-            (subst (λ (s : List Block). Hull (Pairs (relationOf (t .kind)) (countOf counts (t .a))) s (shapeIn counts J (t .a) ++ shapeIn counts J (t .b)))
-            (ap₂ _++_ (sym (text-shape d (t .a))) (sym (text-shape d (t .b))))
-            (rule-narrows-back counts (shapeOf xs) t (blocks-size d) right (blocks-sound d) h));
-        first-output = refl;
-        second-output = refl;
-      }
+  two-accepts : Accepts a b work a b (cleared 63001 work)
+  two-accepts = record {
+    shapes = record { first = text-accepted d each (t .a) (right .first); second = text-accepted d each (t .b) (right .second) };
+    room = record { work = room; first = omega arith; second = omega arith };
+    work-cleared = refl;
+  }
 
-      pub hull-call : Call counts t xs Narrow
-      hull-call = record {
-        work = work;
-        out-a = numbersIn counts xs (t .a);
-        out-b = numbersIn counts xs (t .b);
-        work′ = cleared 63001 work;
-        out-a′ = wordsOf (shapeIn counts J (t .a)) ++ drop (length (numbersIn counts xs (t .a))) (numbersIn counts xs (t .a));
-        out-b′ = wordsOf (shapeIn counts J (t .b)) ++ drop (length (numbersIn counts xs (t .b))) (numbersIn counts xs (t .b));
-        permitted = narrows-call (t .kind) (right .known) _ _ work _ _ (cleared 63001 work) _ _ Narrow (accepts, new);
-      }
+  three-accepts : t .kind ≡ joinKind → JoinAccepts a b c work a b c (cleared 63001 work)
+  three-accepts e = record {
+    shapes = three-accepted d t right e each (sound .joinable);
+    room = record { work = room; first = omega arith; second = omega arith; third = omega arith };
+    work-cleared = refl;
+  }
 
-      -- what it leaves are the numbers of the new blocks
-      pub hull-after : shapeOf (after counts t xs hull-call) ≡ J
-      hull-after = one-hull (call-hull hull-call) h
+  -- a rule is a join or not
+  by-kind : {P : Type 0} → (t .kind ≡ joinKind → P) → ((t .kind ≡ joinKind → ⊥) → P) → P
+  by-kind f g = ⊎-elim f g (eq-or-ne (t .kind) joinKind)
 
-    -- where the rule changes nothing, the call leaves both shapes
-    pub hull-leaves : Hull (asks counts t) (shapeOf xs) (shapeOf xs) → Leaves counts t xs
-    hull-leaves h =
-        let c = hull-call h in
-        let same = applied-unchanged d t right (both c) w (hull-after h) in
-        record { call = c; same-a = same .0; same-b = same .1 }
+  of-two : (t .kind ≡ joinKind → ⊥) → OfTwo (t .kind)
+  of-two n = record { known = right .known; no-join = n }
+
+  pub none-call : None (asks counts t) (shapeOf xs) → Call counts t xs no-choice
+  none-call n = by-kind
+      (λ e. on-three e work a b c (cleared 63001 work) a b c (three-accepts e, record { none = three-none-back d t right e n; first-output = refl; second-output = refl; third-output = refl }))
+      (λ e. on-two work a b (cleared 63001 work) a b
+      (narrows-call (t .kind) (of-two e) _ _ work _ _ (cleared 63001 work) _ _ no-choice (two-accepts, record { none = two-none-back d t right e n; first-output = refl; second-output = refl })))
+
+  module _ {J : List Block} (h : Hull (asks counts t) (shapeOf xs) J) where
+    -- the outputs handed back
+    out : ℕ → List ℕ → List ℕ
+    out k o = wordsOf (partOf counts k J) ++ drop (length o) o
+
+    pub hull-call : Call counts t xs Narrow
+    unfolding out
+    hull-call = by-kind
+        (λ e. on-three e work a b c (cleared 63001 work) (out (t .a) a) (out (t .b) b) (out (t .c) c) (three-accepts e, three-back d t right e a b c h))
+        (λ e. on-two work a b (cleared 63001 work) (out (t .a) a) (out (t .b) b) (narrows-call (t .kind) (of-two e) _ _ work _ _ (cleared 63001 work) _ _ Narrow (two-accepts, two-back d t right e a b h)))
+
+    -- what it leaves are the numbers of the new blocks
+    pub hull-after : shapeOf (after counts t xs hull-call) ≡ J
+    hull-after = one-hull (call-hull d t right hull-call) h
+
+  -- where the rule changes nothing, the call leaves its shapes
+  pub hull-leaves : Numbers xs → Hull (asks counts t) (shapeOf xs) (shapeOf xs) → Leaves counts t xs
+  hull-leaves w h = record { call = hull-call h; same = call-does d t right (hull-call h) .unchanged w (hull-after h) }

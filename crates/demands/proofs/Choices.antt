@@ -1,5 +1,5 @@
 -- A choice of texts is a choice of runs, and back: so no choice of texts that satisfies the whole book is lost. Assumes nothing.
-use mathlib.Core.Path.{_≡_, refl, sym, ap, _∙_, subst, subst₂}
+use mathlib.Core.Path.{_≡_, refl, sym, ap, ap₂, _∙_, subst, subst₂}
 use mathlib.Core.List.{List, [], _∷_, _++_}
 use Prim.Native.Nat.{ℕ, zero, suc, _+_, _-_, _≤_, _<_}
 use native.Mathlib.Omega.{arith}
@@ -13,14 +13,15 @@ use Rattle.hulls.proofs.Fill.{filling-size, join, split-first, split-second}
 use Rattle.hulls.proofs.Runs.{none-lost}
 use Rattle.texts.specs.Kind.{relationOf}
 use Rattle.books.specs.Counts.{sumOf, RightCount, countOf, firstOf}
+use Rattle.rules.specs.declared.Rule.{Rule}
 use Rattle.rules.specs.Rule.{ruleAt, ruleCount}
-use Rattle.books.specs.Rules.{Names, ruleOf}
-use Rattle.books.specs.Refused.{RightRules}
+use Rattle.books.specs.Rules.{Names, RightRule, Keeps, relates, textIn, ruleOf}
 use Rattle.books.proofs.Sums.{text-within}
 use Rattle.book_steps.specs.Step.{Standing}
+use Rattle.book_steps.proofs.Looks.{named-third}
 use Rattle.book_steps.proofs.Standing.{blocks-size, text-shape}
 use Rattle.demands.specs.Calls.{Ending, none, numbers, Calls, Choice}
-use Rattle.demands.proofs.Sequences.{outcomeOf, calls-run, calls-end, Ended}
+use Rattle.demands.proofs.Sequences.{RightRules, outcomeOf, calls-run, calls-end, Ended}
 
 -- a part of a filling fills the part
 pub part-filling : (m n : ℕ) {S : List Block} {f : List (List ℕ)} → m + n ≤ length S → Filling S f → Filling (take n (drop m S)) (take n (drop m f))
@@ -77,10 +78,14 @@ module _ {counts rules : List ℕ} (right : RightRules counts rules) {xs : List 
 
   -- what it keeps as texts it keeps as runs
   keeps-of : (c : Choice counts rules xs text) (j : ℕ) → j < ruleCount rules → ruleOf counts rules j (runs-of c .0)
-  keeps-of c j l =
-      let t = ruleAt rules j in
-      let r = right .each j l in
-      subst₂ (relationOf (t .kind)) (sym (runs-of c .2 (t .a) (r .first))) (sym (runs-of c .2 (t .b) (r .second))) (c .keeps j l)
+  keeps-of c j l = go (ruleAt rules j) (right .each j l) (c .keeps j l)
+    where
+      same : (k : ℕ) → Names counts k → text k ≡ textIn counts (runs-of c .0) k
+      same k n = sym (runs-of c .2 k n)
+
+      go : (t : Rule) → RightRule counts t → Keeps t text → Keeps t (textIn counts (runs-of c .0))
+      go t r (relates q) = relates (subst₂ (relationOf (t .kind)) (same (t .a) (r .first)) (same (t .b) (r .second)) q)
+      go t r (Keeps.joins e q) = Keeps.joins e (sym (same (t .a) (r .first)) ∙ q ∙ ap₂ _++_ (same (t .b) (r .second)) (same (t .c) (named-third counts t r e)))
 
   -- and where the runs fill other numbers, the texts fit them
   choice-again : (c : Choice counts rules xs text) {zs : List ℕ} → Standing counts zs → Filling (shapeOf zs) (runs-of c .0) → Choice counts rules zs text

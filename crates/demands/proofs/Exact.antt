@@ -91,15 +91,14 @@ module _ (R : List ℕ → List ℕ → Type 0) (X Y : List Block) where
       second = second;
     }
 
--- the shape at the start of an output
+-- the numbers, and the shape, at the start of an output
+pub written-words : {xs : List ℕ} → Accepted xs → (S : List Block) (o o′ : List ℕ) → length S ≡ length (shapeOf xs) → o′ ≡ wordsOf S ++ o → take (length xs) o′ ≡ wordsOf S
+written-words {xs} a S o o′ e f =
+    ap (take (length xs)) f
+    ∙ take-at (wordsOf S) o (length xs) (let w = words-length S in let l = shape-length xs in let whole = a .right .whole in omega arith)
+
 pub written-shape : {xs : List ℕ} → Accepted xs → (S : List Block) (o o′ : List ℕ) → length S ≡ length (shapeOf xs) → o′ ≡ wordsOf S ++ o → shapeOf (take (length xs) o′) ≡ S
-written-shape {xs} a S o o′ e f =
-    let size : length (wordsOf S) ≡ length xs =
-    let w = words-length S in
-    let l = shape-length xs in
-    let whole = a .right .whole in
-    omega arith in
-    ap (λ (l : List ℕ). shapeOf (take (length xs) l)) f ∙ ap shapeOf (take-at (wordsOf S) o (length xs) size) ∙ shape-words S
+written-shape a S o o′ e f = ap shapeOf (written-words a S o o′ e f) ∙ shape-words S
 
 -- both shapes that narrowing leaves
 pub narrowed-shapes : {R : List ℕ → List ℕ → Type 0} {xs ys ox oy ox′ oy′ : List ℕ} → PairAccepted xs ys → (n : Narrows R xs ys ox oy ox′ oy′)

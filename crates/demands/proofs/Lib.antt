@@ -3,6 +3,8 @@ pub mod Calls
 pub mod Sequences
 pub mod Choices
 pub mod Exact
+pub mod Joined
 pub mod Refusals
 pub mod Demands
 pub mod Requests
+pub mod Request3

@@ -22,6 +22,8 @@ use Rattle.pairs.specs.Pair.{PairAccepted, Room, NarrowRefused}
 use Rattle.pairs.specs.Narrow.{NarrowPromise}
 use Rattle.pairs.proofs.Pair.{narrow-one, narrow-not}
 use Rattle.pairs.proofs.Determined.{Outcome, narrow-determined}
+use Rattle.joins.specs.Refused.{JoinAccepted, JoinRoom, JoinRefused}
+use Rattle.joins.proofs.Refused.{join-refused-one, join-refused-not}
 use Rattle.common_calls.specs.Common.{ShowRoom, ShowRefused}
 use Rattle.common_calls.proofs.Common.{show-refused-one, show-refused-not}
 use Rattle.sweep_calls.specs.Sweep.{SweepRefused}
@@ -30,7 +32,7 @@ use Rattle.books.specs.Refused.{BookAccepted, BookRefused}
 use Rattle.books.proofs.Refused.{book-one, book-not}
 use Rattle.file_runs.specs.Promise.{RunRefused}
 use Rattle.file_runs.proofs.Determined.{run-refused-one, run-file-not}
-use Rattle.dashed.specs.Promises.{CheckShape, FitsShape, Sweep, CommonText, RunBook, RunFile}
+use Rattle.dashed.specs.Promises.{CheckShape, FitsShape, Sweep, NarrowJoin, CommonText, RunBook, RunFile}
 use Rattle.demands.specs.Demands.{Refuses, TextRefused, FileAcceptable, NarrowingRefuses}
 
 pub check-shape-refuses : (xs : List ℕ) → Refuses Checked.Refused (CheckShape xs) (Accepted xs) (ShapeRefused 1 xs)
@@ -67,7 +69,7 @@ text-refuses d xs out out′ = record { acceptable = λ a q p. text-not xs out (
     malformed n (Written.Text m) p = absurd (n (p .accepted, p .room))
     malformed n (Written.Refused q) p = (q, refl, p .0)
 
--- ---- the sweep, the earliest common text, narrowing, a book
+-- ---- the sweep, the earliest common text, narrowing, a join, a book
 
 pub sweep-refuses : (xs ys out out′ : List ℕ)
     → Refuses Swept.Refused (Sweep xs ys out out′) (PairAccepted xs ys × (2 * length (shapeOf xs) ≤ length out)) (SweepRefused xs ys (length out))
@@ -117,6 +119,21 @@ narrowing-refuses R = record {
     malformed xs ys work ox oy work′ ox′ oy′ n Narrowed.Narrow p = absurd (n (p .0 .shapes, p .0 .room))
     malformed xs ys work ox oy work′ ox′ oy′ n Narrowed.None p = absurd (n (p .0 .shapes, p .0 .room))
     malformed xs ys work ox oy work′ ox′ oy′ n (Narrowed.Refused q) p = (q, refl, p .0)
+
+pub join-refuses : (xs ys zs work ox oy oz work′ ox′ oy′ oz′ : List ℕ) → Refuses Narrowed.Refused (NarrowJoin xs ys zs work ox oy oz work′ ox′ oy′ oz′)
+    (JoinAccepted xs ys zs × JoinRoom xs ys zs (length work) (length ox) (length oy) (length oz)) (JoinRefused xs ys zs (length work) (length ox) (length oy) (length oz))
+join-refuses xs ys zs work ox oy oz work′ ox′ oy′ oz′ = record {
+  acceptable = λ a q p. join-refused-not (p .0) (a .0) (a .1);
+  malformed = malformed;
+  one = λ t u p q. join-refused-one p q;
+}
+  where
+    malformed : (JoinAccepted xs ys zs × JoinRoom xs ys zs (length work) (length ox) (length oy) (length oz) → ⊥) → (r : Narrowed)
+        → NarrowJoin xs ys zs work ox oy oz work′ ox′ oy′ oz′ r
+        → (q : Refusal) × (r ≡ Narrowed.Refused q) × JoinRefused xs ys zs (length work) (length ox) (length oy) (length oz) (told q)
+    malformed n Narrowed.Narrow p = absurd (n (p .0 .shapes, p .0 .room))
+    malformed n Narrowed.None p = absurd (n (p .0 .shapes, p .0 .room))
+    malformed n (Narrowed.Refused q) p = (q, refl, p .0)
 
 pub run-book-refuses : (counts blocks rules work blocks′ work′ : List ℕ)
     → Refuses Ran.Refused (RunBook counts blocks rules work blocks′ work′) (BookAccepted counts blocks rules (length work)) (BookRefused counts blocks rules (length work))

@@ -3,7 +3,7 @@
 use mathlib.Core.Path.{_≡_, refl, sym, ap, _∙_, subst}
 use mathlib.Core.Bool.{Bool, true≢false}
 use mathlib.Core.List.{List, [], _∷_}
-use Prim.Native.Nat.{ℕ, suc, _%_, _≤_}
+use Prim.Native.Nat.{ℕ, suc, _%_, _≤_, _<_}
 use native.Mathlib.Omega.{arith}
 use lib.ListN.{length, replicate, length-replicate}
 use Rattle.shapes.specs.All.{All}
@@ -16,13 +16,15 @@ use Rattle.hulls.specs.Book.Runs.{stop-none, stop, apply}
 use Rattle.hulls.proofs.Runs.{runs-agree, books-agree, ends-none, ends-widest}
 use Rattle.books.specs.Counts.{RightCount}
 use Rattle.rules.specs.Rule.{ruleAt, ruleCount}
-use Rattle.books.specs.Rules.{ruleOf, AllIn}
-use Rattle.books.specs.Refused.{RightRules, BookAccepted}
+use Rattle.books.specs.Rules.{RightRule, ruleOf, AllIn}
+use Rattle.books.specs.Refused.{SoundRules, BookAccepted}
+use Rattle.books.proofs.Joinable.{rules-within}
+use Rattle.hulls.proofs.Hull.{hull-within}
 use Rattle.book_runs.specs.Rounds.{Rounds, RunStable, RunNone}
 use Rattle.book_runs.specs.Rounds.Rounds.{stops, keeps, changes, round as again, rests as stays}
 use Rattle.book_steps.specs.Step.{Standing}
 use Rattle.book_runs.proofs.Rounds.{Kept, one-kept, among}
-use Rattle.book_laying.proofs.Shapes.{same-numbers}
+use Rattle.laying.proofs.Shapes.{same-numbers}
 use Rattle.book_steps.proofs.Standing.{standing-first}
 use Rattle.demands.specs.Calls.{after, LeftAlone, Ending, none, numbers, Calls, says-none, rests, goes-on, InOrder, ends, next, round, WidestLeft}
 use Rattle.demands.proofs.Calls.{call-hull, call-stands, call-words, call-none, leaves-hull, none-call, hull-call, hull-after, hull-leaves}
@@ -62,14 +64,22 @@ same-end counts rules others (numbers zs) (numbers ws) p q h =
     let same : shapeOf zs ≡ shapeOf ws = cc in
     ap numbers (same-numbers zs ws (whole (p .0)) (whole (q .0)) (p .1) (q .1) same)
 
+-- each rule of a book is right
+pub record RightRules (counts rules : List ℕ) : Type 0 where
+  pub each : (j : ℕ) → j < ruleCount rules → RightRule counts (ruleAt rules j)
+
+pub all-right : {counts rules : List ℕ} {S : List Block} → SoundRules counts S rules → RightRules counts rules
+all-right s = record { each = λ j l. s .each j l .right }
+
 module _ {counts rules : List ℕ} (each : All RightCount counts) (right : RightRules counts rules) where
   -- ---- left alone and stable are one thing
 
   pub alone-stable : {xs : List ℕ} → Standing counts xs → LeftAlone counts rules xs → Stable (ruleCount rules) (ruleOf counts rules) (shapeOf xs)
   alone-stable d a = record { each = λ j l. leaves-hull d (ruleAt rules j) (right .each j l) (a .each j l) }
 
-  pub stable-alone : {xs : List ℕ} → Standing counts xs → Numbers xs → Stable (ruleCount rules) (ruleOf counts rules) (shapeOf xs) → LeftAlone counts rules xs
-  stable-alone d w s = record { each = λ j l. hull-leaves d (ruleAt rules j) (right .each j l) each w someWork some-room (s .each j l) }
+  pub stable-alone : {xs : List ℕ} → Standing counts xs → SoundRules counts (shapeOf xs) rules → Numbers xs → Stable (ruleCount rules) (ruleOf counts rules) (shapeOf xs)
+      → LeftAlone counts rules xs
+  stable-alone d v w s = record { each = λ j l. hull-leaves d (ruleAt rules j) (v .each j l) each someWork some-room w (s .each j l) }
 
   -- ---- a sequence of calls is a run
 
@@ -109,31 +119,32 @@ module _ {counts rules : List ℕ} (each : All RightCount counts) (right : Right
     abbrev Sequence : List ℕ → ℕ → Outcome → ℕ → Type 0
     Sequence xs k o m = (js : List ℕ) × Calls counts rules xs js (endingOf o) × InOrder (ruleCount rules) k js × (length js ≡ m)
 
-    one-call : {xs : List ℕ} {k m : ℕ} (o : Outcome) {H : List Block} → (d : Standing counts xs) → Numbers xs → (l : suc k ≤ ruleCount rules)
+    one-call : {xs : List ℕ} {k m : ℕ} (o : Outcome) {H : List Block} → (d : Standing counts xs) → SoundRules counts (shapeOf xs) rules → Numbers xs → (l : suc k ≤ ruleCount rules)
         → Hull (ruleOf counts rules k) (shapeOf xs) H
-        → ((ys : List ℕ) → shapeOf ys ≡ H → Standing counts ys → Numbers ys → Sequence ys (suc k) o m) → Sequence xs k o (suc m)
-    one-call {xs} {k} o d w l h go =
+        → ((ys : List ℕ) → shapeOf ys ≡ H → Standing counts ys → SoundRules counts (shapeOf ys) rules → Numbers ys → Sequence ys (suc k) o m) → Sequence xs k o (suc m)
+    one-call {xs} {k} o d v w l h go =
         let t = ruleAt rules k in
-        let c = hull-call d t (right .each k l) each w work room h in
-        let rest = go (after counts t xs c) (hull-after d t (right .each k l) each w work room h) (call-stands d t (right .each k l) c) (call-words d t (right .each k l) c w) in
+        let c = hull-call d t (v .each k l) each work room h in
+        let rest = go (after counts t xs c) (hull-after d t (v .each k l) each work room h) (call-stands d t (right .each k l) c)
+        (rules-within (hull-within (call-hull d t (right .each k l) c)) v) (call-words d t (right .each k l) c w) in
         (k ∷ rest .0, goes-on k l c (rest .1), next l (rest .2), ap suc (rest .3))
 
-    walk-calls : {xs : List ℕ} {S : List Block} {k : ℕ} {b : Bool} {o : Outcome} {m : ℕ} → shapeOf xs ≡ S → Standing counts xs → Numbers xs
+    walk-calls : {xs : List ℕ} {S : List Block} {k : ℕ} {b : Bool} {o : Outcome} {m : ℕ} → shapeOf xs ≡ S → Standing counts xs → SoundRules counts (shapeOf xs) rules → Numbers xs
         → Kept (ruleOf counts rules) S k b → Rounds (ruleCount rules) (ruleOf counts rules) S k b o m → Sequence xs k o m
     unfolding endingOf
-    walk-calls {xs} {k} e d w f (stops a x) =
-        (k ∷ [], says-none k a (none-call d (ruleAt rules k) (right .each k a) each w work room (subst (None (ruleOf counts rules k)) (sym e) x)), next a ends, refl)
-    walk-calls {xs} {S} {k} {b} {o} e d w f (keeps a h v) =
-        one-call o d w a (subst (λ (B : List Block). Hull (ruleOf counts rules k) B S) (sym e) h)
-        (λ ys q s u. walk-calls q s u (one-kept (ruleOf counts rules) S k b f h) v)
-    walk-calls {xs} {S} {k} {o} e d w f (changes {H = H} a h n v) =
-        one-call o d w a (subst (λ (B : List Block). Hull (ruleOf counts rules k) B H) (sym e) h)
-        (λ ys q s u. walk-calls q s u (λ z. absurd (true≢false z)) v)
-    walk-calls e d w f (again q v) =
-        let r = walk-calls e d w (λ z j l. absurd (omega arith)) v in (r .0, r .1, round q (r .2), r .3)
-    walk-calls {xs} {S} e d w f (stays q) =
+    walk-calls {xs} {k} e d v w f (stops a x) =
+        (k ∷ [], says-none k a (none-call d (ruleAt rules k) (v .each k a) each work room (subst (None (ruleOf counts rules k)) (sym e) x)), next a ends, refl)
+    walk-calls {xs} {S} {k} {b} {o} e d v w f (keeps a h r) =
+        one-call o d v w a (subst (λ (B : List Block). Hull (ruleOf counts rules k) B S) (sym e) h)
+        (λ ys q s g u. walk-calls q s g u (one-kept (ruleOf counts rules) S k b f h) r)
+    walk-calls {xs} {S} {k} {o} e d v w f (changes {H = H} a h n r) =
+        one-call o d v w a (subst (λ (B : List Block). Hull (ruleOf counts rules k) B H) (sym e) h)
+        (λ ys q s g u. walk-calls q s g u (λ z. absurd (true≢false z)) r)
+    walk-calls e d v w f (again q r) =
+        let s = walk-calls e d v w (λ z j l. absurd (omega arith)) r in (s .0, s .1, round q (s .2), s .3)
+    walk-calls {xs} {S} e d v w f (stays q) =
         let stable : Stable (ruleCount rules) (ruleOf counts rules) S = record { each = λ j l. f refl j (omega arith) } in
-        let left = stable-alone d w (subst (Stable (ruleCount rules) (ruleOf counts rules)) (sym e) stable) in
+        let left = stable-alone d v w (subst (Stable (ruleCount rules) (ruleOf counts rules)) (sym e) stable) in
         let same : xs ≡ wordsOf S = sym (words-shape xs (whole d) w) ∙ ap wordsOf e in
         ([], subst (λ (zs : List ℕ). Calls counts rules xs [] (numbers zs)) same (rests left), ends, refl)
 
@@ -143,8 +154,28 @@ pub permuted-agree : {counts blocks rules others js ks : List ℕ} {w v : ℕ} {
 permuted-agree {counts} {blocks} {rules} {others} {e = e} {u = u} a b h to from r s =
     let d = standing-first a in
     let same = books-agree (among counts rules others to) (among counts others rules from)
-    (calls-run (a .counted .each) (a .right) d r) (calls-run (b .counted .each) (b .right) d s) in
-    same-end counts rules others e u (calls-end (a .counted .each) (a .right) d h r) (calls-end (b .counted .each) (b .right) d h s) same
+    (calls-run (a .counted .each) (all-right (a .right)) d r) (calls-run (b .counted .each) (all-right (b .right)) d s) in
+    same-end counts rules others e u (calls-end (a .counted .each) (all-right (a .right)) d h r) (calls-end (b .counted .each) (all-right (b .right)) d h s) same
+
+-- where a sequence ends, the book is accepted again: narrower texts are no longer, and neither are joins of them
+pub calls-accepted : {counts blocks rules js zs : List ℕ} {w : ℕ} → BookAccepted counts blocks rules w → Numbers blocks → Calls counts rules blocks js (numbers zs)
+    → BookAccepted counts zs rules w
+calls-accepted a h r =
+    let c = a .counted in
+    let end = calls-widest (c .each) (all-right (a .right)) (standing-first a) h r in
+    record {
+      counted = record {
+        some-texts = c .some-texts;
+        few-texts = c .few-texts;
+        each = c .each;
+        whole-blocks = end .stands .size;
+        whole-rules = c .whole-rules;
+        few-rules = c .few-rules;
+      };
+      texts = end .stands .texts;
+      right = rules-within (end .within) (a .right);
+      room = a .room;
+    }
 
 -- the run that `run_book` promises, as such a sequence
 module _ {counts blocks rules work blocks′ : List ℕ} {m : ℕ} (w : Numbers blocks) where
@@ -153,11 +184,11 @@ module _ {counts blocks rules work blocks′ : List ℕ} {m : ℕ} (w : Numbers 
   unfolding endingOf
   runner-stable p =
       let a = p .accepted in
-      let s = walk-calls (a .counted .each) (a .right) work (a .room) refl (standing-first a) w (λ e j l. absurd (omega arith)) (p .run) in
+      let s = walk-calls (a .counted .each) (all-right (a .right)) work (a .room) refl (standing-first a) (a .right) w (λ e j l. absurd (omega arith)) (p .run) in
       (s .0, subst (λ (zs : List ℕ). Calls counts rules blocks (s .0) (numbers zs)) (sym (p .left)) (s .1), s .2, s .3)
 
   pub runner-none : RunNone counts blocks rules work blocks′ m → (js : List ℕ) × Calls counts rules blocks js none × InOrder (ruleCount rules) 0 js × (length js ≡ m)
   unfolding endingOf
   runner-none p =
       let a = p .accepted in
-      walk-calls (a .counted .each) (a .right) work (a .room) refl (standing-first a) w (λ e j l. absurd (omega arith)) (p .run)
+      walk-calls (a .counted .each) (all-right (a .right)) work (a .room) refl (standing-first a) (a .right) w (λ e j l. absurd (omega arith)) (p .run)

@@ -1,5 +1,5 @@
 -- Demand 3 speaks of rules applied singly, in any order: here each application is a call of the library, on lent numbers.
--- The state is the numbers of all texts' blocks, end to end. A rule names two texts, and its kind the call that narrows them.
+-- The state is the numbers of all texts' blocks, end to end. A rule names two texts, or three if it is a join, and its kind the call that narrows them.
 use mathlib.Core.Path.{_≡_}
 use mathlib.Core.List.{List, [], _∷_}
 use Prim.Native.Nat.{ℕ, zero, suc, _*_, _<_}
@@ -9,49 +9,44 @@ use Rattle.answers.specs.declared.Narrowed.the-variants.{Narrow, None}
 use Rattle.shapes.specs.Lent.{shapeOf}
 use Rattle.shapes.specs.Shape.{Fits, blockSize}
 use Rattle.hulls.specs.Book.{Within}
-use Rattle.texts.specs.Kind.{relationOf}
+use Rattle.texts.specs.Kind.{joinKind}
 use Rattle.rules.specs.declared.Rule.{Rule}
 use Rattle.rules.specs.Rule.{ruleAt, ruleCount}
-use Rattle.books.specs.Counts.{countOf, firstOf}
-use Rattle.books.specs.Rules.{Names}
+use Rattle.books.specs.Counts.{countOf}
+use Rattle.books.specs.Rules.{Names, Keeps}
 use Rattle.books.specs.Code.{numbersIn}
-use Rattle.book_laying.specs.Laid.{replaced}
-use Rattle.book_steps.specs.Step.{Standing}
-use Rattle.dashed.specs.Promises.{NarrowEqual, NarrowAtMost, NarrowBefore}
+use Rattle.book_steps.specs.Step.{Standing, laidOver}
+use Rattle.dashed.specs.Promises.{NarrowEqual, NarrowAtMost, NarrowBefore, NarrowJoin}
 
--- The promise of the call that a rule's kind names: 0 equal, 1 a at most b, 2 a before b.
+-- The promise of the call on two texts that a rule's kind names: 0 equal, 1 a at most b, 2 a before b.
 abbrev pub CallOf : ℕ → List ℕ → List ℕ → List ℕ → List ℕ → List ℕ → List ℕ → List ℕ → List ℕ → Narrowed → Type 0
 CallOf zero xs ys work ox oy work′ ox′ oy′ r = NarrowEqual xs ys work ox oy work′ ox′ oy′ r
 CallOf (suc zero) xs ys work ox oy work′ ox′ oy′ r = NarrowAtMost xs ys work ox oy work′ ox′ oy′ r
 CallOf (suc (suc zero)) xs ys work ox oy work′ ox′ oy′ r = NarrowBefore xs ys work ox oy work′ ox′ oy′ r
 CallOf (suc (suc (suc k))) xs ys work ox oy work′ ox′ oy′ r = ⊥
 
--- A call for the rule t, on the numbers of its two texts among xs: the memory lent, the same as handed back, and any outcome that the promise permits.
-pub record Call (counts : List ℕ) (t : Rule) (xs : List ℕ) (answer : Narrowed) : Type 0 where
-  pub work : List ℕ
-  pub out-a : List ℕ
-  pub out-b : List ℕ
-  pub work′ : List ℕ
-  pub out-a′ : List ℕ
-  pub out-b′ : List ℕ
-  pub permitted : CallOf (t .kind) (numbersIn counts xs (t .a)) (numbersIn counts xs (t .b)) work out-a out-b work′ out-a′ out-b′ answer
+-- A call for the rule t, on the numbers of its texts among xs: the memory lent, the same as handed back, and any outcome that the promise permits.
+pub data Call (counts : List ℕ) (t : Rule) (xs : List ℕ) (answer : Narrowed) : Type 0 where
+  on-two : (work oa ob work′ oa′ ob′ : List ℕ) → CallOf (t .kind) (numbersIn counts xs (t .a)) (numbersIn counts xs (t .b)) work oa ob work′ oa′ ob′ answer
+      → Call counts t xs answer
+  on-three : t .kind ≡ joinKind → (work oa ob oc work′ oa′ ob′ oc′ : List ℕ)
+      → NarrowJoin (numbersIn counts xs (t .a)) (numbersIn counts xs (t .b)) (numbersIn counts xs (t .c)) work oa ob oc work′ oa′ ob′ oc′ answer
+      → Call counts t xs answer
 
--- The two new shapes stand at the start of the outputs.
-abbrev pub newA : (counts : List ℕ) (t : Rule) (xs : List ℕ) → Call counts t xs Narrow → List ℕ
-newA counts t xs c = take (countOf counts (t .a) * blockSize) (c .out-a′)
+-- The new shape of text k stands at the start of its output.
+abbrev pub newOf : List ℕ → ℕ → List ℕ → List ℕ
+newOf counts k out = take (countOf counts k * blockSize) out
 
-abbrev pub newB : (counts : List ℕ) (t : Rule) (xs : List ℕ) → Call counts t xs Narrow → List ℕ
-newB counts t xs c = take (countOf counts (t .b) * blockSize) (c .out-b′)
+-- The new shapes are laid back over the old ones.
+unfoldable pub after : (counts : List ℕ) (t : Rule) (xs : List ℕ) → Call counts t xs Narrow → List ℕ
+after counts t xs (on-two work oa ob work′ oa′ ob′ p) = laidOver counts (t .a ∷ (t .b ∷ [])) (newOf counts (t .a) oa′ ∷ (newOf counts (t .b) ob′ ∷ [])) xs
+after counts t xs (on-three e work oa ob oc work′ oa′ ob′ oc′ p) =
+    laidOver counts (t .a ∷ (t .b ∷ (t .c ∷ []))) (newOf counts (t .a) oa′ ∷ (newOf counts (t .b) ob′ ∷ (newOf counts (t .c) oc′ ∷ []))) xs
 
--- They are laid back over the old ones.
-abbrev pub after : (counts : List ℕ) (t : Rule) (xs : List ℕ) → Call counts t xs Narrow → List ℕ
-after counts t xs c = replaced (firstOf counts (t .b) * blockSize) (newB counts t xs c) (replaced (firstOf counts (t .a) * blockSize) (newA counts t xs c) xs)
-
--- The call for the rule t answers with both shapes as they are.
+-- The call for the rule t answers with its shapes as they are: laid back, they change no number.
 pub record Leaves (counts : List ℕ) (t : Rule) (xs : List ℕ) : Type 0 where
   pub call : Call counts t xs Narrow
-  pub same-a : newA counts t xs call ≡ numbersIn counts xs (t .a)
-  pub same-b : newB counts t xs call ≡ numbersIn counts xs (t .b)
+  pub same : after counts t xs call ≡ xs
 
 -- Every rule's call does.
 pub record LeftAlone (counts rules xs : List ℕ) : Type 0 where
@@ -85,4 +80,4 @@ pub record WidestLeft (counts rules blocks zs : List ℕ) : Type 0 where
 -- One text for each number, each fitting its shape among xs, that together satisfy every rule of the book.
 pub record Choice (counts rules xs : List ℕ) (text : ℕ → List ℕ) : Type 0 where
   pub fits : (k : ℕ) → Names counts k → Fits (shapeOf (numbersIn counts xs k)) (text k)
-  pub keeps : (j : ℕ) → j < ruleCount rules → relationOf (ruleAt rules j .kind) (text (ruleAt rules j .a)) (text (ruleAt rules j .b))
+  pub keeps : (j : ℕ) → j < ruleCount rules → Keeps (ruleAt rules j) text

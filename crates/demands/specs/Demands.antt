@@ -1,7 +1,7 @@
 -- The user's three demands, a field for each sentence, over the promises of the calls (`dashed`, Promises.antt). That every call ends on every input and leaves no
 -- duty to its caller is what it means that the calls are proved with no `requires`; it is no statement of this file.
 use mathlib.Core.Path.{_≡_}
-use mathlib.Core.List.{List, []}
+use mathlib.Core.List.{List, [], _++_}
 use mathlib.Core.Logic.{_⊎_, _↔_}
 use Prim.Native.Nat.{ℕ, _*_, _≤_, _<_}
 use lib.ListN.{length, getD, take}
@@ -20,6 +20,7 @@ use Rattle.texts.specs.Order.{AtMost, Before}
 use Rattle.hulls.specs.Hull.{Tight}
 use Rattle.hulls.specs.Book.{Within, Stable}
 use Rattle.pairs.specs.Pair.{PairAccepted, Room, NarrowRefused}
+use Rattle.joins.specs.Refused.{JoinAccepted, JoinRoom, JoinRefused}
 use Rattle.common_calls.specs.Common.{ShowRoom, ShowRefused}
 use Rattle.sweep_calls.specs.Sweep.{SweepRefused}
 use Rattle.sweep_steps.specs.Steps.{sweepOf}
@@ -31,7 +32,7 @@ use Rattle.book_steps.specs.Step.{Standing}
 use Rattle.file_lines.specs.Book.{Book}
 use Rattle.files.specs.Departs.{FileAccepted}
 use Rattle.file_runs.specs.Promise.{RunRefused}
-use Rattle.dashed.specs.Promises.{CheckShape, FitsShape, Earlier, LeastText, GreatestText, Sweep, NarrowEqual, NarrowAtMost, NarrowBefore, CommonText, RunBook, RunFile}
+use Rattle.dashed.specs.Promises.{CheckShape, FitsShape, Earlier, LeastText, GreatestText, Sweep, NarrowEqual, NarrowAtMost, NarrowBefore, NarrowJoin, CommonText, RunBook, RunFile}
 use Rattle.demands.specs.Calls.{LeftAlone, none, numbers, Ending, Calls, InOrder, WidestLeft, Choice}
 
 -- ---- demand 1
@@ -73,6 +74,8 @@ pub record Demand1 : Type 1 where
   pub greatest : (xs out out′ : List ℕ) → Refuses Written.Refused (GreatestText xs out out′) (Accepted xs × (250 ≤ length out)) (TextRefused xs out)
   pub sweep : (xs ys out out′ : List ℕ) → Refuses Swept.Refused (Sweep xs ys out out′) (PairAccepted xs ys × (2 * length (shapeOf xs) ≤ length out))
       (SweepRefused xs ys (length out))
+  pub join : (xs ys zs work ox oy oz work′ ox′ oy′ oz′ : List ℕ) → Refuses Narrowed.Refused (NarrowJoin xs ys zs work ox oy oz work′ ox′ oy′ oz′)
+      (JoinAccepted xs ys zs × JoinRoom xs ys zs (length work) (length ox) (length oy) (length oz)) (JoinRefused xs ys zs (length work) (length ox) (length oy) (length oz))
   pub common-text : (xs ys work out work′ out′ : List ℕ) → Refuses Shown.Refused (CommonText xs ys work out work′ out′)
       (PairAccepted xs ys × ShowRoom (length work) (length out)) (ShowRefused xs ys (length work) (length out))
   pub run-book : (counts blocks rules work blocks′ work′ : List ℕ) → Refuses Ran.Refused (RunBook counts blocks rules work blocks′ work′)
@@ -83,6 +86,8 @@ pub record Demand1 : Type 1 where
   pub least-untouched : (xs out out′ : List ℕ) (q : Refusal) → LeastText xs out out′ (Written.Refused q) → out′ ≡ out
   pub greatest-untouched : (xs out out′ : List ℕ) (q : Refusal) → GreatestText xs out out′ (Written.Refused q) → out′ ≡ out
   pub sweep-untouched : (xs ys out out′ : List ℕ) (q : Refusal) → Sweep xs ys out out′ (Swept.Refused q) → out′ ≡ out
+  pub join-untouched : (xs ys zs work ox oy oz work′ ox′ oy′ oz′ : List ℕ) (q : Refusal) → NarrowJoin xs ys zs work ox oy oz work′ ox′ oy′ oz′ (Narrowed.Refused q)
+      → (work′ ≡ work) × (ox′ ≡ ox) × (oy′ ≡ oy) × (oz′ ≡ oz)
   pub common-text-untouched : (xs ys work out work′ out′ : List ℕ) (q : Refusal) → CommonText xs ys work out work′ out′ (Shown.Refused q) → (work′ ≡ work) × (out′ ≡ out)
   pub book-untouched : (counts blocks rules work blocks′ work′ : List ℕ) (q : Refusal) → RunBook counts blocks rules work blocks′ work′ (Ran.Refused q)
       → (blocks′ ≡ blocks) × (work′ ≡ work)
@@ -98,6 +103,8 @@ pub record Demand1 : Type 1 where
   pub least-one : (xs out out′ out″ : List ℕ) (r s : Written) → LeastText xs out out′ r → LeastText xs out out″ s → (r ≡ s) × (out′ ≡ out″)
   pub greatest-one : (xs out out′ out″ : List ℕ) (r s : Written) → GreatestText xs out out′ r → GreatestText xs out out″ s → (r ≡ s) × (out′ ≡ out″)
   pub sweep-one : (xs ys out out′ out″ : List ℕ) (r s : Swept) → Sweep xs ys out out′ r → Sweep xs ys out out″ s → (r ≡ s) × (out′ ≡ out″)
+  pub join-one : (xs ys zs work ox oy oz work′ ox′ oy′ oz′ work″ ox″ oy″ oz″ : List ℕ) (r s : Narrowed) → NarrowJoin xs ys zs work ox oy oz work′ ox′ oy′ oz′ r
+      → NarrowJoin xs ys zs work ox oy oz work″ ox″ oy″ oz″ s → (r ≡ s) × (work′ ≡ work″) × (ox′ ≡ ox″) × (oy′ ≡ oy″) × (oz′ ≡ oz″)
   pub common-text-one : (xs ys work out work′ out′ work″ out″ : List ℕ) (r s : Shown) → CommonText xs ys work out work′ out′ r
       → CommonText xs ys work out work″ out″ s → (r ≡ s) × (work′ ≡ work″) × (out′ ≡ out″)
   pub run-book-one : (counts blocks rules work b b′ w w′ : List ℕ) (r s : Ran) → RunBook counts blocks rules work b w r → RunBook counts blocks rules work b′ w′ s
@@ -132,6 +139,32 @@ pub record Exact (R : List ℕ → List ℕ → Type 0) (Call : NarrowCall) : Ty
   pub keeps : {xs ys work ox oy work′ ox′ oy′ : List ℕ} → Call xs ys work ox oy work′ ox′ oy′ Narrowed.Narrow
       → KeepsExactly R (shapeOf xs) (shapeOf ys) (shapeOf (take (length xs) ox′)) (shapeOf (take (length ys) oy′))
 
+-- The same for a join, with triples for pairs (document 02, order 3): three fillings of which the first's text is the second's followed by the third's.
+pub record Triple (X Y Z : List Block) : Type 0 where
+  pub first : List (List ℕ)
+  pub second : List (List ℕ)
+  pub third : List (List ℕ)
+  pub fills-first : Filling X first
+  pub fills-second : Filling Y second
+  pub fills-third : Filling Z third
+  pub joined : textOf first ≡ textOf second ++ textOf third
+
+pub record KeepsTriples (X Y Z X′ Y′ Z′ : List Block) : Type 0 where
+  pub blocks-first : length X′ ≡ length X
+  pub blocks-second : length Y′ ≡ length Y
+  pub blocks-third : length Z′ ≡ length Z
+  pub first : (i : ℕ) → i < length X → Tight (λ r. (p : Triple X Y Z) × (getD (p .first) i [] ≡ r)) (getD X′ i noBlock)
+  pub second : (i : ℕ) → i < length Y → Tight (λ r. (p : Triple X Y Z) × (getD (p .second) i [] ≡ r)) (getD Y′ i noBlock)
+  pub third : (i : ℕ) → i < length Z → Tight (λ r. (p : Triple X Y Z) × (getD (p .third) i [] ≡ r)) (getD Z′ i noBlock)
+
+pub record ExactJoin : Type 0 where
+  pub none-sound : {xs ys zs work ox oy oz work′ ox′ oy′ oz′ : List ℕ} → NarrowJoin xs ys zs work ox oy oz work′ ox′ oy′ oz′ Narrowed.None
+      → (t u v : List ℕ) → Fits (shapeOf xs) t → Fits (shapeOf ys) u → Fits (shapeOf zs) v → t ≡ u ++ v → ⊥
+  pub none-complete : {xs ys zs work ox oy oz work′ ox′ oy′ oz′ : List ℕ} → NarrowJoin xs ys zs work ox oy oz work′ ox′ oy′ oz′ Narrowed.Narrow
+      → (t : List ℕ) × (u : List ℕ) × (v : List ℕ) × Fits (shapeOf xs) t × Fits (shapeOf ys) u × Fits (shapeOf zs) v × (t ≡ u ++ v)
+  pub keeps : {xs ys zs work ox oy oz work′ ox′ oy′ oz′ : List ℕ} → NarrowJoin xs ys zs work ox oy oz work′ ox′ oy′ oz′ Narrowed.Narrow
+      → KeepsTriples (shapeOf xs) (shapeOf ys) (shapeOf zs) (shapeOf (take (length xs) ox′)) (shapeOf (take (length ys) oy′)) (shapeOf (take (length zs) oz′))
+
 pub record Demand2 : Type 0 where
   -- "Fitting, least and greatest text mean what the dashed-string papers define."
   pub fits-yes : (xs t : List ℕ) → FitsShape xs t Fit.Fits → Fits (shapeOf xs) t
@@ -144,6 +177,8 @@ pub record Demand2 : Type 0 where
   pub equal : Exact (λ t u. t ≡ u) NarrowEqual
   pub at-most : Exact AtMost NarrowAtMost
   pub before : Exact Before NarrowBefore
+  -- and for joins
+  pub join : ExactJoin
   -- "The quick sweep follows its corrected rules": the answer with its looks, and every output cell, are those of document 01's steps
   pub sweep-places : {xs ys out out′ : List ℕ} (k : ℕ) → Sweep xs ys out out′ (Swept.Places k)
       → (Swept.Places k ≡ sweptOf (sweepOf (shapeOf xs) (shapeOf ys))) × (out′ ≡ outputOf (sweepOf (shapeOf xs) (shapeOf ys)) out)
@@ -178,8 +213,11 @@ pub record Demand3 : Type 0 where
   pub none-wide : {counts blocks rules js : List ℕ} {w : ℕ} → BookAccepted counts blocks rules w → Calls counts rules blocks js none
       → (ys : List ℕ) → Standing counts ys → LeftAlone counts rules ys → Within (shapeOf ys) (shapeOf blocks) → ⊥
   -- stable, as said of all blocks at once (`Stable`, hulls), is exactly that every call leaves the numbers alone
-  pub stable-left : {counts blocks rules zs : List ℕ} {w : ℕ} → BookAccepted counts blocks rules w → Standing counts zs → Numbers zs
-      → Stable (ruleCount rules) (ruleOf counts rules) (shapeOf zs) ↔ LeftAlone counts rules zs
+  pub stable-left : {counts blocks rules : List ℕ} {w : ℕ} → BookAccepted counts blocks rules w → Numbers blocks
+      → Stable (ruleCount rules) (ruleOf counts rules) (shapeOf blocks) ↔ LeftAlone counts rules blocks
+  -- and wherever a sequence ends is an accepted book again, of the same rules: the shapes stay sound, and no join outgrows its 250 characters
+  pub accepted-on : {counts blocks rules js zs : List ℕ} {w : ℕ} → BookAccepted counts blocks rules w → Numbers blocks
+      → Calls counts rules blocks js (numbers zs) → BookAccepted counts zs rules w
   -- "No choice of texts that satisfies the whole book is lost."
   pub none-lost : {counts blocks rules js : List ℕ} {w : ℕ} {e : Ending} {text : ℕ → List ℕ} → BookAccepted counts blocks rules w → Numbers blocks
       → Calls counts rules blocks js e → Choice counts rules blocks text → (zs : List ℕ) × (e ≡ numbers zs) × Choice counts rules zs text

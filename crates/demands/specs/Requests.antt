@@ -1,19 +1,27 @@
 -- The requests of document 02, a field for each sentence, over the promises of the calls. What a request says of refusals stands with demand 1.
 use mathlib.Core.Path.{_≡_}
-use mathlib.Core.List.{List, [], _∷_}
+use mathlib.Core.List.{List, [], _∷_, _++_}
 use mathlib.Core.Logic.{_↔_}
-use Prim.Native.Nat.{ℕ, _≤_}
+use Prim.Native.Nat.{ℕ, _+_, _≤_, _<_}
 use lib.ListN.{length, take, drop}
+use Rattle.answers.specs.Told.{tell}
 use Rattle.answers.specs.declared.Narrowed.{Narrowed}
 use Rattle.answers.specs.declared.Shown.{Shown}
 use Rattle.answers.specs.declared.Written.{Written}
-use Rattle.shapes.specs.Shape.{Fits}
+use Rattle.shapes.specs.Shape.{Fits, total}
 use Rattle.shapes.specs.Lent.{shapeOf}
 use Rattle.texts.specs.Order.{AtMost}
-use Rattle.pairs.specs.Pair.{Room}
+use Rattle.texts.specs.Kind.{relationOf, joinKind}
+use Rattle.rules.specs.declared.Rule.{Rule}
+use Rattle.rules.specs.Rule.{ruleAt, ruleCount}
+use Rattle.pairs.specs.Pair.{PairAccepted, Room}
 use Rattle.pairs.specs.Narrow.{Cleared}
+use Rattle.joins.specs.Refused.{JoinAccepted, JoinRoom}
+use Rattle.books.specs.Counts.{RightCounts, shapeIn}
+use Rattle.books.specs.Rules.{Names, RightRule, Keeps}
+use Rattle.books.specs.Refused.{SoundTexts, SoundRule, BookRefused, BookAccepted}
 use Rattle.common_calls.specs.Common.{ShowRoom}
-use Rattle.dashed.specs.Promises.{LeastText, NarrowEqual, CommonText}
+use Rattle.dashed.specs.Promises.{LeastText, NarrowEqual, NarrowJoin, CommonText}
 
 -- ---- order 2
 
@@ -51,3 +59,40 @@ pub record Request2 : Type 0 where
   pub same-least : {xs work out work′ out′ out₁ out₁′ : List ℕ} (n m : ℕ) → CommonText xs xs work out work′ out′ (Shown.Text n) → LeastText xs out₁ out₁′ (Written.Text m)
       → (n ≡ m) × (take n out′ ≡ take m out₁′)
   pub same-some : {xs work out work′ out′ : List ℕ} → CommonText xs xs work out work′ out′ Shown.None → ⊥
+
+-- ---- order 3
+
+pub record Request3 : Type 0 where
+  -- "Add a rule saying that text a is text b followed by text c": what a join asks of texts; the other kinds ask what they asked
+  pub join-asks : (t : Rule) (text : ℕ → List ℕ) → t .kind ≡ joinKind → Keeps t text ↔ (text (t .a) ≡ text (t .b) ++ text (t .c))
+  pub others-ask : (t : Rule) (text : ℕ → List ℕ) → (t .kind ≡ joinKind → ⊥) → Keeps t text ↔ relationOf (t .kind) (text (t .a)) (text (t .b))
+  -- "the fourth is 0 except in kind 3, where it is c", and "a, b, c are .. three different texts"
+  pub fourth-zero : {counts blocks rules : List ℕ} {w : ℕ} → BookAccepted counts blocks rules w → (j : ℕ) → j < ruleCount rules → (ruleAt rules j .kind ≡ joinKind → ⊥)
+      → ruleAt rules j .c ≡ 0
+  pub three-texts : {counts blocks rules : List ℕ} {w : ℕ} → BookAccepted counts blocks rules w → (j : ℕ) → j < ruleCount rules → ruleAt rules j .kind ≡ joinKind
+      → let t = ruleAt rules j in
+      (Names counts (t .a) × Names counts (t .b) × Names counts (t .c)) × ((t .a ≡ t .b → ⊥) × (t .a ≡ t .c → ⊥) × (t .b ≡ t .c → ⊥))
+  -- "7 also if ..; 12 if the uppers of b and c add to over 250, at the rule's number, tried right after 7 for that rule": once the rules before it are sound, a rule is
+  -- refused by 7, then by 12, whatever stands after it
+  pub seven : {counts blocks rules : List ℕ} {w : ℕ} → RightCounts counts blocks rules → SoundTexts counts (shapeOf blocks) → (i : ℕ) → i < ruleCount rules
+      → ((j : ℕ) → j < i → SoundRule counts (shapeOf blocks) (ruleAt rules j)) → (RightRule counts (ruleAt rules i) → ⊥) → BookRefused counts blocks rules w (tell 7 0 (i + 1))
+  pub twelve : {counts blocks rules : List ℕ} {w : ℕ} → RightCounts counts blocks rules → SoundTexts counts (shapeOf blocks) → (i : ℕ) → i < ruleCount rules
+      → ((j : ℕ) → j < i → SoundRule counts (shapeOf blocks) (ruleAt rules j)) → RightRule counts (ruleAt rules i) → ruleAt rules i .kind ≡ joinKind
+      → 250 < total (shapeIn counts (shapeOf blocks) (ruleAt rules i .b)) + total (shapeIn counts (shapeOf blocks) (ruleAt rules i .c))
+      → BookRefused counts blocks rules w (tell 12 0 (i + 1))
+  -- what some triple of texts satisfies stays: no such triple is lost
+  pub none-lost : {xs ys zs work ox oy oz work′ ox′ oy′ oz′ : List ℕ} → NarrowJoin xs ys zs work ox oy oz work′ ox′ oy′ oz′ Narrowed.Narrow
+      → (t u v : List ℕ) → Fits (shapeOf xs) t → Fits (shapeOf ys) u → Fits (shapeOf zs) v → t ≡ u ++ v
+      → Fits (shapeOf (take (length xs) ox′)) t × Fits (shapeOf (take (length ys) oy′)) u × Fits (shapeOf (take (length zs) oz′)) v
+  -- "All three are narrowed over triples": from the entered shapes; that b and c are as they would be if they were narrowed against what a's narrowing left is a law
+  pub from-first : {xs ys zs work ox oy oz work′ ox′ oy′ oz′ work₁ ox₁ oy₁ oz₁ work₁′ ox₁′ oy₁′ oz₁′ : List ℕ} → NarrowJoin xs ys zs work ox oy oz work′ ox′ oy′ oz′ Narrowed.Narrow
+      → NarrowJoin (take (length xs) ox′) ys zs work₁ ox₁ oy₁ oz₁ work₁′ ox₁′ oy₁′ oz₁′ Narrowed.Narrow
+      → (take (length ys) oy₁′ ≡ take (length ys) oy′) × (take (length zs) oz₁′ ≡ take (length zs) oz′)
+  -- a join is exact equality with the line that b's blocks make with c's behind them, where that is a shape: the same none, and the same numbers. To the call for
+  -- equality other memory is lent, work₁, ox₁ and ol
+  pub as-equality-none : (xs ys zs work ox oy oz work′ ox′ oy′ oz′ work₁ ox₁ ol work₁′ ox₁′ ol′ : List ℕ) (r s : Narrowed) → NarrowJoin xs ys zs work ox oy oz work′ ox′ oy′ oz′ r
+      → NarrowEqual xs (ys ++ zs) work₁ ox₁ ol work₁′ ox₁′ ol′ s → JoinAccepted xs ys zs × JoinRoom xs ys zs (length work) (length ox) (length oy) (length oz)
+      → PairAccepted xs (ys ++ zs) × Room xs (ys ++ zs) (length work₁) (length ox₁) (length ol) → (r ≡ Narrowed.None) ↔ (s ≡ Narrowed.None)
+  pub as-equality : {xs ys zs work ox oy oz work′ ox′ oy′ oz′ work₁ ox₁ ol work₁′ ox₁′ ol′ : List ℕ} → NarrowJoin xs ys zs work ox oy oz work′ ox′ oy′ oz′ Narrowed.Narrow
+      → NarrowEqual xs (ys ++ zs) work₁ ox₁ ol work₁′ ox₁′ ol′ Narrowed.Narrow
+      → (take (length xs) ox′ ≡ take (length xs) ox₁′) × (take (length ys) oy′ ++ take (length zs) oz′ ≡ take (length (ys ++ zs)) ol′)

@@ -8,17 +8,22 @@ use lib.ListN.{length, getD, take, drop, length-append, length-drop, take-append
 use lib.Seq.{take-all, length-take-le, take-at, drop-at, getD-at, take-add, drop-drop, split-at}
 use Rattle.bases.specs.Base.{baseOf}
 use Rattle.bases.proofs.Laws.{one-word, words-bound}
+use Rattle.rules.specs.declared.Rule.{Rule}
+use Rattle.rules.specs.Rule.{ruleWith}
 use Rattle.shapes.specs.Shape.{Block}
 use Rattle.shapes.specs.Lent.{blockOf}
 use Rattle.shapes.proofs.All.{all-map}
 use Rattle.file_numerals.specs.Digits.{digits, decimal}
 use Rattle.file_numerals.proofs.Digits.{decimal-digits, digits-length, digits-split}
-use Rattle.file_lines.specs.Book.{RightBlock, headLine, twoNumbers, blockLine}
-use Rattle.file_lines.specs.Lines.{Without, First}
-use Rattle.file_lines.proofs.Split.{first-split, first-parts, none-parts}
+use Rattle.file_lines.specs.Book.{RightBlock, headLine, twoNumbers, blockLine, ruleLine}
+use Rattle.file_lines.specs.Lines.{Without, NumberFirst}
+use Rattle.file_lines.proofs.Split.{parted}
 
 -- the rest of a list, as a part of it
-pub rest-of : (t : List ℕ) (j : ℕ) → take (length t - j) (drop j t) ≡ drop j t
+abbrev pub restFrom : ℕ → List ℕ → List ℕ
+restFrom j t = take (length t - j) (drop j t)
+
+pub rest-of : (t : List ℕ) (j : ℕ) → restFrom j t ≡ drop j t
 rest-of t j = take-all (length t - j) (drop j t) (let e = length-drop j t in omega arith)
 
 -- no blank and no newline is among the digits
@@ -27,14 +32,29 @@ without-decimal b n h = all-map (λ c d e. let low = d .0 in omega arith) (decim
 
 -- ---- a decimal, a blank, and something else
 
-pub blank-parts : (t : List ℕ) (i a : ℕ) (y : List ℕ) → First 32 t i → t ≡ decimal a ++ 32 ∷ y → (take i t ≡ decimal a) × (drop (i + 1) t ≡ y)
-blank-parts t i a y f e = first-parts 32 t i (decimal a) y f (without-decimal 32 a (omega arith)) e
+module _ (t : List ℕ) (n m : ℕ) (f : NumberFirst t n m) where
+  pub number-rest : (a : ℕ) (y : List ℕ) → t ≡ decimal a ++ 32 ∷ y → restFrom m t ≡ y
+  number-rest a y e =
+      rest-of t m ∙ parted 32 (decimal n) (decimal a) (drop m t) y (without-decimal 32 n (omega arith)) (without-decimal 32 a (omega arith)) (sym (f .split) ∙ e) .1
 
-pub blank-none : (t : List ℕ) (a : ℕ) (y : List ℕ) → Without 32 t → t ≡ decimal a ++ 32 ∷ y → ⊥
-blank-none t a y w e = none-parts 32 t (decimal a) y w e
+  pub number-is : (y : List ℕ) → restFrom m t ≡ y → t ≡ decimal n ++ 32 ∷ y
+  number-is y e = f .split ∙ ap (λ (u : List ℕ). decimal n ++ 32 ∷ u) (sym (rest-of t m) ∙ e)
 
-pub blank-is : (t : List ℕ) (i a : ℕ) (y : List ℕ) → First 32 t i → take i t ≡ decimal a → drop (i + 1) t ≡ y → t ≡ decimal a ++ 32 ∷ y
-blank-is t i a y f e g = first-split 32 t i f ∙ (λ m. e m ++ 32 ∷ g m)
+-- a rule: two numbers with a blank after each, then two more
+module _ (t : List ℕ) (n m a k : ℕ) (f : NumberFirst t n m) (s : NumberFirst (restFrom m t) a k) where
+  rest-rest : restFrom (m + k) t ≡ restFrom k (restFrom m t)
+  rest-rest = rest-of t (m + k) ∙ sym (drop-drop k m t) ∙ ap (drop k) (sym (rest-of t m)) ∙ sym (rest-of (restFrom m t) k)
+
+  pub rule-within : m + k ≤ length t
+  rule-within = let h = f .within in let g = s .within in let l = ap length (rest-of t m) ∙ length-drop m t in omega arith
+
+  pub rule-rest : (r : Rule) → t ≡ ruleLine r → restFrom (m + k) t ≡ twoNumbers (r .b) (r .c)
+  unfolding ruleLine
+  rule-rest r e = rest-rest ∙ number-rest (restFrom m t) a k s (r .a) _ (number-rest t n m f (r .kind) _ e)
+
+  pub rule-is : (b c : ℕ) → restFrom (m + k) t ≡ twoNumbers b c → t ≡ ruleLine (ruleWith n a b c)
+  unfolding ruleLine
+  rule-is b c e = number-is t n m f _ (number-is (restFrom m t) a k s _ (sym rest-rest ∙ e))
 
 -- ---- a word and a decimal
 

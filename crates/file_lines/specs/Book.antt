@@ -1,4 +1,4 @@
--- Document 01, "A book and its run": a book, and its bytes as a file.
+-- Document 01, "A book and its run", and document 02, order 3: a book, and its bytes as a file.
 use mathlib.Core.List.{List, [], _∷_, _++_, map}
 use Prim.Native.Nat.{ℕ, _^_, _≤_, _<_}
 use lib.ListN.{length}
@@ -36,8 +36,9 @@ twoNumbers a b = decimal a ++ 32 ∷ decimal b
 unfoldable pub blockLine : Block → List ℕ
 blockLine b = digits 16 32 (b .base) ++ 32 ∷ twoNumbers (b .lower) (b .upper)
 
+-- A rule is its four numbers.
 unfoldable pub ruleLine : Rule → List ℕ
-ruleLine r = decimal (r .kind) ++ 32 ∷ twoNumbers (r .a) (r .b)
+ruleLine r = decimal (r .kind) ++ 32 ∷ (decimal (r .a) ++ 32 ∷ twoNumbers (r .b) (r .c))
 
 -- A book's lines: three sections, each after its count.
 unfoldable pub linesOf : Book → List (List ℕ)
@@ -69,6 +70,7 @@ pub record RuleInGrammar (r : Rule) : Type 0 where
   pub kind : Writable (r .kind)
   pub a : Writable (r .a)
   pub b : Writable (r .b)
+  pub c : Writable (r .c)
 
 -- Texts over 8, blocks over 256 or rules over 16 depart.
 pub record InGrammar (b : Book) : Type 0 where

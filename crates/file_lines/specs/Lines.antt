@@ -1,9 +1,9 @@
 -- What the inner functions of reading a file answer.
 use mathlib.Core.Path.{_≡_}
-use mathlib.Core.List.{List}
+use mathlib.Core.List.{List, _∷_, _++_}
 use Prim.Native.Nat.{ℕ, _≤_, _<_}
-use lib.ListN.{length, getD, take}
-use Rattle.rules.specs.Rule.{ruleWith}
+use lib.ListN.{length, getD, take, drop}
+use Rattle.file_numerals.specs.Digits.{decimal}
 use Rattle.file_numerals.specs.declared.Number.{Number}
 use Rattle.file_numerals.specs.declared.Number.the-variants.{Is as is, Not as none}
 use Rattle.shapes.specs.All.{All}
@@ -13,8 +13,10 @@ use Rattle.file_lines.specs.declared.Found.{Found}
 use Rattle.file_lines.specs.declared.Found.the-variants.{At, Nothing}
 use Rattle.file_lines.specs.declared.Two.{Two}
 use Rattle.file_lines.specs.declared.Two.the-variants.{Is as two, Not as no-two}
-use Rattle.file_lines.specs.declared.Triple.{Triple}
-use Rattle.file_lines.specs.declared.Triple.the-variants.{Is as triple, Not as no-triple}
+use Rattle.file_lines.specs.declared.NumberAt.{NumberAt}
+use Rattle.file_lines.specs.declared.NumberAt.the-variants.{Is as number, Not as no-number}
+use Rattle.file_lines.specs.declared.RuleLine.{RuleLine}
+use Rattle.file_lines.specs.declared.RuleLine.the-variants.{Is as rule, Not as no-rule}
 use Rattle.file_lines.specs.declared.BlockLine.{BlockLine}
 use Rattle.file_lines.specs.declared.BlockLine.the-variants.{Is as block, Not as no-block}
 use Rattle.file_lines.specs.declared.Words.{Words}
@@ -41,17 +43,34 @@ Says Right text t x = Right x × (t ≡ text x)
 abbrev pub SaysNone : {X : Type 0} → (X → Type 0) → (X → List ℕ) → List ℕ → Type 0
 SaysNone {X} Right text t = (x : X) → Right x → t ≡ text x → ⊥
 
+-- t begins with what `text` makes of x, and x is right; then comes the byte b, which ends at place m
+pub record Leads {X : Type 0} (b : ℕ) (Right : X → Type 0) (text : X → List ℕ) (t : List ℕ) (x : X) (m : ℕ) : Type 0 where
+  pub right : Right x
+  pub within : m ≤ length t
+  pub split : t ≡ text x ++ b ∷ drop m t
+
+abbrev pub LeadsNone : {X : Type 0} → ℕ → (X → Type 0) → (X → List ℕ) → List ℕ → Type 0
+LeadsNone {X} b Right text t = (x : X) (after : List ℕ) → Right x → t ≡ text x ++ b ∷ after → ⊥
+
 abbrev pub HeadRead : List ℕ → ℕ → List ℕ → Number → Type 0
 HeadRead word most t (is n) = Says (λ (m : ℕ). m ≤ most) (headLine word) t n
 HeadRead word most t none = SaysNone (λ (m : ℕ). m ≤ most) (headLine word) t
+
+-- a number and the blank after it
+abbrev pub NumberFirst : List ℕ → ℕ → ℕ → Type 0
+NumberFirst t n m = Leads 32 Writable decimal t n m
+
+abbrev pub NumberRead : List ℕ → NumberAt → Type 0
+NumberRead t (number n m) = NumberFirst t n m
+NumberRead t no-number = LeadsNone 32 Writable decimal t
 
 abbrev pub TwoRead : List ℕ → Two → Type 0
 TwoRead t (two a b) = Writable a × Writable b × (t ≡ twoNumbers a b)
 TwoRead t no-two = (a b : ℕ) → Writable a → Writable b → t ≡ twoNumbers a b → ⊥
 
-abbrev pub TripleRead : List ℕ → Triple → Type 0
-TripleRead t (triple k a b) = Says RuleInGrammar ruleLine t (ruleWith k a b)
-TripleRead t no-triple = SaysNone RuleInGrammar ruleLine t
+abbrev pub RuleRead : List ℕ → RuleLine → Type 0
+RuleRead t (rule r) = Says RuleInGrammar ruleLine t r
+RuleRead t no-rule = SaysNone RuleInGrammar ruleLine t
 
 -- the block of a line's numbers
 abbrev pub blockIn : Words → Block

@@ -1,10 +1,11 @@
 // A book file, read line by line.
 use file_numerals::Number;
+use rules::Rule;
 ghost use mathlib.Core.Path.{_≡_};
 ghost use Prim.Native.Nat.{_≤_};
 ghost use Rattle.bases.specs.Tells.{Tells};
 ghost use lib.ListN.{length, take};
-ghost use Rattle.file_lines.specs.Lines.{FoundIn, HeadRead, TwoRead, TripleRead, BlockRead};
+ghost use Rattle.file_lines.specs.Lines.{FoundIn, HeadRead, NumberRead, TwoRead, RuleRead, BlockRead};
 
 // Where a byte stands first.
 pub enum Found {
@@ -12,14 +13,20 @@ pub enum Found {
     Nothing,
 }
 
-// Two numbers, three numbers and a block, as a line has them.
+// A number at the start of some bytes, and the place past the byte that ends it.
+pub enum NumberAt {
+    Is(u64, usize),
+    Not,
+}
+
+// Two numbers, a rule and a block, as a line has them.
 pub enum Two {
     Is(u64, u64),
     Not,
 }
 
-pub enum Triple {
-    Is(u64, u64, u64),
+pub enum RuleLine {
+    Is(Rule),
     Not,
 }
 
@@ -89,38 +96,45 @@ pub fn read_head(line: &[u8], word: &[u8], most: u64) -> Number
     }
 }
 
-// Two decimals with a blank.
-fn read_two(part: &[u8]) -> Two
-    ensures { λ r. ⌜ TwoRead (now (part .entry)) r ⌝ }
+// A decimal and a blank at the start of a part.
+fn read_number(part: &[u8]) -> NumberAt
+    ensures { λ r. ⌜ NumberRead (now (part .entry)) r ⌝ }
 {
     match find(part, b' ') {
-        Found::Nothing => Two::Not,
+        Found::Nothing => NumberAt::Not,
         Found::At(i) => match file_numerals::read_decimal(&part[..i]) {
-            Number::Not => Two::Not,
-            Number::Is(a) => {
-                let j = i + 1;
-                match file_numerals::read_decimal(&part[j..]) {
-                    Number::Not => Two::Not,
-                    Number::Is(b) => Two::Is(a, b),
-                }
-            }
+            Number::Not => NumberAt::Not,
+            Number::Is(n) => NumberAt::Is(n, i + 1),
         },
     }
 }
 
-// A rule's line.
-pub fn read_rule(line: &[u8]) -> Triple
-    ensures { λ r. ⌜ TripleRead (now (line .entry)) r ⌝ }
+// Two decimals with a blank.
+fn read_two(part: &[u8]) -> Two
+    ensures { λ r. ⌜ TwoRead (now (part .entry)) r ⌝ }
 {
-    match find(line, b' ') {
-        Found::Nothing => Triple::Not,
-        Found::At(i) => match file_numerals::read_decimal(&line[..i]) {
-            Number::Not => Triple::Not,
-            Number::Is(k) => {
-                let j = i + 1;
-                match read_two(&line[j..]) {
-                    Two::Not => Triple::Not,
-                    Two::Is(a, b) => Triple::Is(k, a, b),
+    match read_number(part) {
+        NumberAt::Not => Two::Not,
+        NumberAt::Is(a, m) => match file_numerals::read_decimal(&part[m..]) {
+            Number::Not => Two::Not,
+            Number::Is(b) => Two::Is(a, b),
+        },
+    }
+}
+
+// A rule's line: two numbers, each with a blank after it, and the last two.
+pub fn read_rule(line: &[u8]) -> RuleLine
+    ensures { λ r. ⌜ RuleRead (now (line .entry)) r ⌝ }
+{
+    match read_number(line) {
+        NumberAt::Not => RuleLine::Not,
+        NumberAt::Is(kind, m) => match read_number(&line[m..]) {
+            NumberAt::Not => RuleLine::Not,
+            NumberAt::Is(a, k) => {
+                let rest = m + k;
+                match read_two(&line[rest..]) {
+                    Two::Not => RuleLine::Not,
+                    Two::Is(b, c) => RuleLine::Is(Rule { kind, a, b, c }),
                 }
             }
         },

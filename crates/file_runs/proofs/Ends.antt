@@ -42,12 +42,13 @@ use Rattle.file_runs.specs.Promise.RunRefused.{of-book as refused-book}
 
 -- ---- the numbers of rules, and the rules of some numbers
 
-pub numbers-rules : (xs : List ℕ) → length xs % 3 ≡ 0 → numbersOfAll (rulesOf xs) ≡ xs
+pub numbers-rules : (xs : List ℕ) → length xs % 4 ≡ 0 → numbersOfAll (rulesOf xs) ≡ xs
 unfolding numbersOfAll rulesOf
 numbers-rules [] e = refl
 numbers-rules (a ∷ []) e = absurd (let h : _≡_ {A = ℕ} 1 0 = e in omega arith)
 numbers-rules (a ∷ (b ∷ [])) e = absurd (let h : _≡_ {A = ℕ} 2 0 = e in omega arith)
-numbers-rules (a ∷ (b ∷ (c ∷ xs))) e = ap (λ (l : List ℕ). a ∷ (b ∷ (c ∷ l))) (numbers-rules xs (omega arith))
+numbers-rules (a ∷ (b ∷ (c ∷ []))) e = absurd (let h : _≡_ {A = ℕ} 3 0 = e in omega arith)
+numbers-rules (a ∷ (b ∷ (c ∷ (d ∷ xs)))) e = ap (λ (l : List ℕ). a ∷ (b ∷ (c ∷ (d ∷ l)))) (numbers-rules xs (omega arith))
 
 -- ---- a run keeps soundness
 
@@ -131,13 +132,13 @@ of-accepted file out out′ b (Refused s) a p = (refused-book a (p .0), p .1)
 
 pub file-of : (file cs bs rs cs′ bs′ rs′ out out′ : List ℕ) (z : Sizes) (r : Written) → BookRead file cs bs rs cs′ bs′ rs′ z
     → All (λ (x : ℕ). x < 2 ^ 64) (take (z .blocks * 4) bs′)
-    → BookPromise (take (z .texts) cs′) (take (z .blocks * 4) bs′) (take (z .rules * 3) rs′) out out′ r → FilePromise file out out′ r
+    → BookPromise (take (z .texts) cs′) (take (z .blocks * 4) bs′) (take (z .rules * 4) rs′) out out′ r → FilePromise file out out′ r
 file-of file cs bs rs cs′ bs′ rs′ out out′ z r read small p =
     let room = ready file cs bs rs cs′ bs′ rs′ z read in
     let nb = length-take-le (z .blocks * 4) bs′ (room .blocks) in
-    let nr = length-take-le (z .rules * 3) rs′ (room .rules) in
+    let nr = length-take-le (z .rules * 4) rs′ (room .rules) in
     let b = take (z .blocks * 4) bs′ in
-    let t = take (z .rules * 3) rs′ in
+    let t = take (z .rules * 4) rs′ in
     let words : wordsOf (shapeOf b) ≡ b = words-shape b (omega arith) small in
     let numbers : numbersOfAll (rulesOf t) ≡ t = numbers-rules t (omega arith) in
     of-accepted file out out′ _ r (read .accepted)

@@ -49,7 +49,7 @@ pub fn run_file(file: &[u8], report: &mut [u8]) -> Written
 {
     let mut counts = [0u64; 8];
     let mut blocks = [0u64; 1024];
-    let mut rules = [0u64; 48];
+    let mut rules = [0u64; 64];
     match files::read_book(file, &mut counts, &mut blocks, &mut rules) {
         Read::Refused(r) => Written::Refused(r),
         Read::Book(sizes) => {

@@ -26,7 +26,9 @@ glyph-least d = ⊎-elim (λ h. let e = glyph-low d h in omega arith) (λ h. let
 
 pub without-rule : (r : Rule) → Without 10 (ruleLine r)
 unfolding ruleLine
-without-rule r = all-append (without-decimal 10 (r .kind) (omega arith)) (more (λ e. omega arith) (without-two (r .a) (r .b)))
+without-rule r =
+    all-append (without-decimal 10 (r .kind) (omega arith))
+    (more (λ e. omega arith) (all-append (without-decimal 10 (r .a) (omega arith)) (more (λ e. omega arith) (without-two (r .b) (r .c)))))
 
 pub without-block : (b : Block) → Without 10 (blockLine b)
 unfolding blockLine

@@ -1,4 +1,4 @@
--- A line at the start of bytes, and lines one after another. Assumes nothing.
+-- Lines one after another, and what they say stored. Assumes nothing.
 use mathlib.Core.Path.{_≡_, refl, sym, ap, _∙_, subst}
 use mathlib.Core.List.{List, [], _∷_, _++_, map, append-assoc}
 use Prim.Native.Nat.{ℕ, zero, suc, _+_, _-_, _*_, _≤_, _<_}
@@ -10,33 +10,17 @@ use lib.Seq.{sets, sets-eq, length-sets, take-at, drop-at, take-nil, take-take, 
 use Rattle.shapes.specs.All.All.{none, more}
 use Rattle.shapes.proofs.All.{all-append}
 use Rattle.file_lines.specs.Book.{joined}
-use Rattle.file_lines.specs.Lines.{Without, First, Says, SaysNone}
 use Rattle.file_lines.proofs.Joined.{joined-append, map-more}
-use Rattle.file_lines.proofs.Split.{first-split, first-parts, none-parts}
 use Rattle.file_sections.specs.Steps.{State, Course, DepartsFrom}
 use Rattle.file_sections.specs.Items.{itemsOf}
 use Rattle.file_sections.specs.Parts.{LineIs, LineIsNone, LinesAre}
 use Rattle.file_sections.proofs.Steps.{Kind, items-path}
 
-module _ {X : Type 0} (Right : X → Type 0) (text : X → List ℕ) (bytes : List ℕ) where
-  -- the first line says x
-  pub line-is : (i : ℕ) (x : X) → First 10 bytes i → Says Right text (take i bytes) x → LineIs Right text bytes x (i + 1)
-  line-is i x f s =
-      record { right = s .0; within = let h = f .within in omega arith; split = first-split 10 bytes i f ∙ ap (λ (t : List ℕ). t ++ 10 ∷ drop (i + 1) bytes) (s .1) }
+-- ---- lines one after another
 
-  -- the first line says nothing right
-  pub line-none : ((x : X) → Right x → Without 10 (text x)) → (i : ℕ) → First 10 bytes i → SaysNone Right text (take i bytes) → LineIsNone Right text bytes
-  line-none w i f s x after h e = s x h (first-parts 10 bytes i (text x) after f (w x h) e .0)
-
-  -- there is no newline
-  pub line-missing : Without 10 bytes → LineIsNone Right text bytes
-  line-missing w x after h e = none-parts 10 bytes (text x) after w e
-
-  -- ---- lines one after another
-
-  pub lines-none : LinesAre Right text bytes [] 0 0
-  unfolding joined
-  lines-none = record { count = refl; right = none; within = omega arith; split = refl }
+pub lines-none : {X : Type 0} (Right : X → Type 0) (text : X → List ℕ) (bytes : List ℕ) → LinesAre Right text bytes [] 0 0
+unfolding joined
+lines-none Right text bytes = record { count = refl; right = none; within = omega arith; split = refl }
 
 joined-more : (ls : List (List ℕ)) (l rest : List ℕ) → joined (ls ++ l ∷ []) ++ rest ≡ joined ls ++ (l ++ 10 ∷ rest)
 unfolding joined

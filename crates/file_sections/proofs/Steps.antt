@@ -115,7 +115,7 @@ small-zero : Writable 0
 small-zero = omega arith
 
 rules-on : (n : ℕ) → (ls : List (List ℕ)) × Course (rules n) ls (rules 0)
-rules-on n = items-on rules-kind (record { kind = 0; a = 0; b = 0 }) (record { kind = small-zero; a = small-zero; b = small-zero }) n
+rules-on n = items-on rules-kind (record { kind = 0; a = 0; b = 0; c = 0 }) (record { kind = small-zero; a = small-zero; b = small-zero; c = small-zero }) n
 
 blocks-on : (n : ℕ) → (ls : List (List ℕ)) × Course (blocks n) ls (rules 0)
 blocks-on n =

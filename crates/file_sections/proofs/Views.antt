@@ -1,7 +1,7 @@
 -- An item's numbers, seen as what they mean: a count, a block, a rule. So what is said of all items is said of each kind. Assumes nothing.
 use mathlib.Core.Path.{_≡_, refl, sym, ap, _∙_, subst}
 use mathlib.Core.List.{List, [], _∷_, _++_, map}
-use Prim.Native.Nat.{ℕ, zero, suc, _+_, _*_, _≤_}
+use Prim.Native.Nat.{ℕ, zero, suc, _*_, _≤_}
 use native.Mathlib.Omega.{arith}
 use lib.ListN.{length, getD, take, drop}
 use Rattle.rules.specs.declared.Rule.{Rule}
@@ -144,15 +144,13 @@ blocks-seen (suc n) (a ∷ (b ∷ (c ∷ (d ∷ out)))) h =
     ap (λ (s : List Block). blockIn (a ∷ (b ∷ (c ∷ (d ∷ [])))) ∷ s) (blocks-seen n out (omega arith))
     ∙ sym (ap (λ (k : ℕ). shapeOf (take k (a ∷ (b ∷ (c ∷ (d ∷ out)))))) (four n))
 
-three : (n : ℕ) → suc n * 3 ≡ suc (suc (suc (n * 3)))
-three n = omega arith
-
-pub rules-seen : (n : ℕ) (out : List ℕ) → n * 3 ≤ length out → map ruleIn (itemsOf 3 n out) ≡ rulesOf (take (n * 3) out)
+pub rules-seen : (n : ℕ) (out : List ℕ) → n * 4 ≤ length out → map ruleIn (itemsOf 4 n out) ≡ rulesOf (take (n * 4) out)
 unfolding itemsOf rulesOf
 rules-seen zero out h = refl
 rules-seen (suc n) [] h = absurd (omega arith)
 rules-seen (suc n) (a ∷ []) h = absurd (omega arith)
 rules-seen (suc n) (a ∷ (b ∷ [])) h = absurd (omega arith)
-rules-seen (suc n) (a ∷ (b ∷ (c ∷ out))) h =
-    ap (λ (s : List Rule). ruleIn (a ∷ (b ∷ (c ∷ []))) ∷ s) (rules-seen n out (omega arith))
-    ∙ sym (ap (λ (k : ℕ). rulesOf (take k (a ∷ (b ∷ (c ∷ out))))) (three n))
+rules-seen (suc n) (a ∷ (b ∷ (c ∷ []))) h = absurd (omega arith)
+rules-seen (suc n) (a ∷ (b ∷ (c ∷ (d ∷ out)))) h =
+    ap (λ (s : List Rule). ruleIn (a ∷ (b ∷ (c ∷ (d ∷ [])))) ∷ s) (rules-seen n out (omega arith))
+    ∙ sym (ap (λ (k : ℕ). rulesOf (take k (a ∷ (b ∷ (c ∷ (d ∷ out)))))) (four n))

@@ -7,9 +7,9 @@ use lib.ListN.{length, drop}
 use lib.Seq.{sets}
 use Rattle.shapes.specs.All.{All}
 use Rattle.file_lines.specs.Book.{headLine, joined}
-use Rattle.file_lines.specs.Lines.{Says, SaysNone}
-use Rattle.file_sections.specs.declared.NumberAt.{NumberAt}
-use Rattle.file_sections.specs.declared.NumberAt.the-variants.{Is as number, Not as no-number}
+use Rattle.file_lines.specs.Lines.{Says, SaysNone, Leads, LeadsNone}
+use Rattle.file_lines.specs.declared.NumberAt.{NumberAt}
+use Rattle.file_lines.specs.declared.NumberAt.the-variants.{Is as number, Not as no-number}
 use Rattle.file_sections.specs.declared.Item.{Item}
 use Rattle.file_sections.specs.declared.LineAt.{LineAt}
 use Rattle.file_sections.specs.declared.LineAt.the-variants.{Ends as line-ends, Not as no-line}
@@ -21,13 +21,11 @@ use Rattle.file_sections.specs.Steps.{DepartsFrom}
 use Rattle.file_sections.specs.Items.{sizeOf, RightItem, lineOf, wordOf, mostOf, before, toCome, itemsOf}
 
 -- x is the first line of the bytes, which ends at place m
-pub record LineIs {X : Type 0} (Right : X → Type 0) (text : X → List ℕ) (bytes : List ℕ) (x : X) (m : ℕ) : Type 0 where
-  pub right : Right x
-  pub within : m ≤ length bytes
-  pub split : bytes ≡ text x ++ 10 ∷ drop m bytes
+abbrev pub LineIs : {X : Type 0} → (X → Type 0) → (X → List ℕ) → List ℕ → X → ℕ → Type 0
+LineIs Right text bytes x m = Leads 10 Right text bytes x m
 
 abbrev pub LineIsNone : {X : Type 0} → (X → Type 0) → (X → List ℕ) → List ℕ → Type 0
-LineIsNone {X} Right text bytes = (x : X) (after : List ℕ) → Right x → bytes ≡ text x ++ 10 ∷ after → ⊥
+LineIsNone Right text bytes = LeadsNone 10 Right text bytes
 
 abbrev pub HeadAt : List ℕ → ℕ → List ℕ → NumberAt → Type 0
 HeadAt word most bytes (number n m) = LineIs (λ (k : ℕ). k ≤ most) (headLine word) bytes n m

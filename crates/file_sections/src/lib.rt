@@ -1,7 +1,8 @@
 // A section of a book file: its count, then as many lines, each read into the numbers that it says.
 use file_lines::BlockLine;
 use file_lines::Found;
-use file_lines::Triple;
+use file_lines::NumberAt;
+use file_lines::RuleLine;
 use file_numerals::Number;
 ghost use mathlib.Core.Path.{_≡_};
 ghost use Prim.Native.Nat.{_+_, _*_, _≤_};
@@ -16,12 +17,6 @@ pub enum Item {
     Count,
     Block,
     Rule,
-}
-
-// A count at the start of some bytes, and the place past its newline.
-pub enum NumberAt {
-    Is(u64, usize),
-    Not,
 }
 
 // A line at the start of some bytes: the place past its newline.
@@ -53,7 +48,7 @@ fn size(item: Item) -> usize
     }
 }
 
-// A section's count.
+// A section's count, and the place past its newline.
 fn head_at(bytes: &[u8], word: &[u8], most: u64) -> NumberAt
     requires { ⌜ most ≤ 65535 ⌝ }
     requires { ⌜ Without 10 (now word) ⌝ }
@@ -98,15 +93,16 @@ fn block_line(line: &[u8], out: &mut [u64], at: usize) -> bool
 }
 
 fn rule_line(line: &[u8], out: &mut [u64], at: usize) -> bool
-    requires { ⌜ at + 3 ≤ length (now out) ⌝ }
+    requires { ⌜ at + 4 ≤ length (now out) ⌝ }
     ensures { λ r. ⌜ LineRead rule (now (line .entry)) at (now (out .entry)) (now (out .exit)) r ⌝ }
 {
     match file_lines::read_rule(line) {
-        Triple::Not => false,
-        Triple::Is(k, a, b) => {
-            out[at] = k;
-            out[at + 1] = a;
-            out[at + 2] = b;
+        RuleLine::Not => false,
+        RuleLine::Is(r) => {
+            out[at] = r.kind;
+            out[at + 1] = r.a;
+            out[at + 2] = r.b;
+            out[at + 3] = r.c;
             true
         }
     }

@@ -9,12 +9,13 @@ use Rattle.rules.specs.Rule.{rulesOf}
 use Rattle.files.specs.declared.Sizes.{Sizes}
 use Rattle.files.specs.Promise.{BookRead}
 
-pub rules-length : (xs : List ℕ) → length (rulesOf xs) ≡ length xs / 3
+pub rules-length : (xs : List ℕ) → length (rulesOf xs) ≡ length xs / 4
 unfolding rulesOf
 rules-length [] = refl
 rules-length (k ∷ []) = refl
 rules-length (k ∷ (a ∷ [])) = refl
-rules-length (k ∷ (a ∷ (b ∷ xs))) = let h = rules-length xs in omega arith
+rules-length (k ∷ (a ∷ (b ∷ []))) = refl
+rules-length (k ∷ (a ∷ (b ∷ (c ∷ xs)))) = let h = rules-length xs in omega arith
 
 pub record Ready (cs bs rs : List ℕ) (z : Sizes) : Type 0 where
   pub few-texts : z .texts ≤ 8
@@ -22,7 +23,7 @@ pub record Ready (cs bs rs : List ℕ) (z : Sizes) : Type 0 where
   pub few-rules : z .rules ≤ 16
   pub texts : z .texts ≤ length cs
   pub blocks : z .blocks * 4 ≤ length bs
-  pub rules : z .rules * 3 ≤ length rs
+  pub rules : z .rules * 4 ≤ length rs
 
 pub ready : (file cs bs rs cs′ bs′ rs′ : List ℕ) (z : Sizes) → BookRead file cs bs rs cs′ bs′ rs′ z → Ready cs′ bs′ rs′ z
 ready file cs bs rs cs′ bs′ rs′ z r =
@@ -35,7 +36,7 @@ ready file cs bs rs cs′ bs′ rs′ z r =
     let nr = r .rules in
     let lt = length-take (z .texts) cs′ in
     let lb = length-take (z .blocks * 4) bs′ in
-    let lr = length-take (z .rules * 3) rs′ in
+    let lr = length-take (z .rules * 4) rs′ in
     let sb = shape-length (take (z .blocks * 4) bs′) in
-    let sr = rules-length (take (z .rules * 3) rs′) in
+    let sr = rules-length (take (z .rules * 4) rs′) in
     record { few-texts = omega arith; few-blocks = omega arith; few-rules = omega arith; texts = omega arith; blocks = omega arith; rules = omega arith }

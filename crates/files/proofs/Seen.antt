@@ -31,7 +31,7 @@ module _ (bytes out out′ : List ℕ) (long : length out′ ≡ length out) whe
       (subst (λ (xs : List Block). SectionIs blocksWord 256 RightBlock blockLine bytes xs n m) (blocks-seen n out′ (omega arith)) seen, s .1)
   blocks-section-seen (Departs i) h s = s
 
-  pub rules-section-seen : (r : Section) → 48 ≤ length out → SectionRead rule-item bytes out out′ r → RulesSeen bytes out out′ r
+  pub rules-section-seen : (r : Section) → 64 ≤ length out → SectionRead rule-item bytes out out′ r → RulesSeen bytes out out′ r
   rules-section-seen (Read n m) h s =
       let few = s .0 .items .few in
       let seen = section-seen rule-view (s .0) in

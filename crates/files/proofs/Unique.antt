@@ -119,19 +119,22 @@ same-lines b c e = ⊎-elim (λ h. sym (one c b (sym e) (omega arith))) (λ h. o
         sym (g .lines ∙ ap (λ (m : List (List ℕ)). linesOf b ++ m) (none-more (g .more) (g .bytes)) ∙ append-nil (linesOf b))
 
 -- a line has one reading
+number-one : (a b : ℕ) (s t : List ℕ) → decimal a ++ 32 ∷ s ≡ decimal b ++ 32 ∷ t → (a ≡ b) × (s ≡ t)
+number-one a b s t e =
+    let p = parted 32 (decimal a) (decimal b) s t (without-decimal 32 a (omega arith)) (without-decimal 32 b (omega arith)) e in
+    (decimal-one a b (p .0), p .1)
+
 two-one : (a b c d : ℕ) → twoNumbers a b ≡ twoNumbers c d → (a ≡ c) × (b ≡ d)
 unfolding twoNumbers
-two-one a b c d e =
-    let p = parted 32 (decimal a) (decimal c) (decimal b) (decimal d) (without-decimal 32 a (omega arith)) (without-decimal 32 c (omega arith)) e in
-    (decimal-one a c (p .0), decimal-one b d (p .1))
+two-one a b c d e = let p = number-one a c (decimal b) (decimal d) e in (p .0, decimal-one b d (p .1))
 
 rule-one : (r s : Rule) → RuleInGrammar r → RuleInGrammar s → ruleLine r ≡ ruleLine s → r ≡ s
 unfolding ruleLine
 rule-one r s h g e =
-    let p = parted 32 (decimal (r .kind)) (decimal (s .kind)) (twoNumbers (r .a) (r .b)) (twoNumbers (s .a) (s .b)) (without-decimal 32 (r .kind) (omega arith)) (without-decimal 32 (s .kind) (omega arith)) e in
-    let k = decimal-one (r .kind) (s .kind) (p .0) in
-    let t = two-one (r .a) (r .b) (s .a) (s .b) (p .1) in
-    λ i. record { kind = k i; a = t .0 i; b = t .1 i }
+    let k = number-one (r .kind) (s .kind) _ _ e in
+    let a = number-one (r .a) (s .a) _ _ (k .1) in
+    let t = two-one (r .b) (r .c) (s .b) (s .c) (a .1) in
+    λ i. record { kind = k .0 i; a = a .0 i; b = t .0 i; c = t .1 i }
 
 block-one : (b c : Block) → RightBlock b → RightBlock c → blockLine b ≡ blockLine c → b ≡ c
 unfolding blockLine

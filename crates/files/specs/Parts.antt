@@ -8,7 +8,7 @@ use Rattle.file_numerals.specs.Digits.{decimal}
 use Rattle.file_lines.specs.Book.{Writable, RightBlock, RuleInGrammar, textsWord, blocksWord, rulesWord, headLine, blockLine, ruleLine, joined}
 use Rattle.file_sections.specs.Steps.{State, DepartsFrom}
 use Rattle.file_sections.specs.Steps.State.{start, counts, blocks}
-use Rattle.rules.specs.Rule.{rulesOf}
+use Rattle.rules.specs.Rule.{ruleSize, rulesOf}
 use Rattle.file_sections.specs.declared.Section.{Section}
 use Rattle.file_sections.specs.declared.Section.the-variants.{Read as section-read, Departs as section-departs}
 use Rattle.file_sections.specs.Parts.{Items, SectionIs}
@@ -31,13 +31,13 @@ abbrev pub BlocksSeen : List ℕ → List ℕ → List ℕ → Section → Type 
 BlocksSeen bytes out out′ r = SectionSeen blocksWord 256 RightBlock blockLine shapeOf (λ (n : ℕ). n * blockSize) (counts 0) bytes out out′ r
 
 abbrev pub RulesSeen : List ℕ → List ℕ → List ℕ → Section → Type 0
-RulesSeen bytes out out′ r = SectionSeen rulesWord 16 RuleInGrammar ruleLine rulesOf (λ (n : ℕ). n * 3) (blocks 0) bytes out out′ r
+RulesSeen bytes out out′ r = SectionSeen rulesWord 16 RuleInGrammar ruleLine rulesOf (λ (n : ℕ). n * ruleSize) (blocks 0) bytes out out′ r
 
 -- the rules, and nothing after them
 pub record LastIs (bytes rs rs′ : List ℕ) (n : ℕ) : Type 0 where
-  pub items : Items 16 RuleInGrammar (rulesOf (take (n * 3) rs′)) n
-  pub whole : bytes ≡ joined (headLine rulesWord n ∷ map ruleLine (rulesOf (take (n * 3) rs′)))
-  pub stays : drop (n * 3) rs′ ≡ drop (n * 3) rs
+  pub items : Items 16 RuleInGrammar (rulesOf (take (n * ruleSize) rs′)) n
+  pub whole : bytes ≡ joined (headLine rulesWord n ∷ map ruleLine (rulesOf (take (n * ruleSize) rs′)))
+  pub stays : drop (n * ruleSize) rs′ ≡ drop (n * ruleSize) rs
 
 abbrev pub LastRead : List ℕ → List ℕ → List ℕ → Last → Type 0
 LastRead bytes rs rs′ (last-read n) = LastIs bytes rs rs′ n
@@ -46,10 +46,10 @@ LastRead bytes rs rs′ (last-departs i) = DepartsFrom (blocks 0) bytes i × (i 
 -- the blocks and the rules, and nothing after them
 pub record TailIs (bytes bs rs bs′ rs′ : List ℕ) (n m : ℕ) : Type 0 where
   pub blocks-are : Items 256 RightBlock (shapeOf (take (n * blockSize) bs′)) n
-  pub rules-are : Items 16 RuleInGrammar (rulesOf (take (m * 3) rs′)) m
-  pub whole : bytes ≡ joined (headLine blocksWord n ∷ (map blockLine (shapeOf (take (n * blockSize) bs′)) ++ (headLine rulesWord m ∷ map ruleLine (rulesOf (take (m * 3) rs′)))))
+  pub rules-are : Items 16 RuleInGrammar (rulesOf (take (m * ruleSize) rs′)) m
+  pub whole : bytes ≡ joined (headLine blocksWord n ∷ (map blockLine (shapeOf (take (n * blockSize) bs′)) ++ (headLine rulesWord m ∷ map ruleLine (rulesOf (take (m * ruleSize) rs′)))))
   pub blocks-stay : drop (n * blockSize) bs′ ≡ drop (n * blockSize) bs
-  pub rules-stay : drop (m * 3) rs′ ≡ drop (m * 3) rs
+  pub rules-stay : drop (m * ruleSize) rs′ ≡ drop (m * ruleSize) rs
 
 abbrev pub TailRead : List ℕ → List ℕ → List ℕ → List ℕ → List ℕ → Tail → Type 0
 TailRead bytes bs rs bs′ rs′ (tail-read n m) = TailIs bytes bs rs bs′ rs′ n m

@@ -32,7 +32,7 @@ pub enum Read {
 
 // The rules, and nothing after them: anything is a further line.
 fn read_last(bytes: &[u8], rules: &mut [u64]) -> Last
-    requires { ⌜ 48 ≤ length (now rules) ⌝ }
+    requires { ⌜ 64 ≤ length (now rules) ⌝ }
     ensures { λ r. ⌜ LastRead (now (bytes .entry)) (now (rules .entry)) (now (rules .exit)) r ⌝ }
 {
     match file_sections::read_section(Item::Rule, b"RULES ", 16, bytes, rules) {
@@ -49,7 +49,7 @@ fn read_last(bytes: &[u8], rules: &mut [u64]) -> Last
 // The blocks, then the rules.
 fn read_tail(bytes: &[u8], blocks: &mut [u64], rules: &mut [u64]) -> Tail
     requires { ⌜ 1024 ≤ length (now blocks) ⌝ }
-    requires { ⌜ 48 ≤ length (now rules) ⌝ }
+    requires { ⌜ 64 ≤ length (now rules) ⌝ }
     ensures { λ r. ⌜ TailRead (now (bytes .entry)) (now (blocks .entry)) (now (rules .entry)) (now (blocks .exit)) (now (rules .exit)) r ⌝ }
 {
     match file_sections::read_section(Item::Block, b"BLOCKS ", 256, bytes, blocks) {
@@ -61,11 +61,11 @@ fn read_tail(bytes: &[u8], blocks: &mut [u64], rules: &mut [u64]) -> Tail
     }
 }
 
-// Reads a book file into numbers: its block counts, its blocks as four numbers each, its rules as three.
+// Reads a book file into numbers: its block counts, and its blocks and its rules as four numbers each.
 pub fn read_book(file: &[u8], counts: &mut [u64], blocks: &mut [u64], rules: &mut [u64]) -> Read
     requires { ⌜ 8 ≤ length (now counts) ⌝ }
     requires { ⌜ 1024 ≤ length (now blocks) ⌝ }
-    requires { ⌜ 48 ≤ length (now rules) ⌝ }
+    requires { ⌜ 64 ≤ length (now rules) ⌝ }
     ensures { λ r. ⌜ ReadPromise (now (file .entry)) (now (counts .entry)) (now (blocks .entry)) (now (rules .entry)) (now (counts .exit)) (now (blocks .exit)) (now (rules .exit)) r ⌝ }
 {
     if 16384 < file.len() {

@@ -9,7 +9,7 @@ use Rattle.shapes.specs.All.{All, more}
 use Rattle.shapes.specs.Shape.{Block, Sound, Run, Filling, noBlock}
 use Rattle.hulls.specs.Hull.{Satisfies, None, Taken, Hull, Outcome, none, shapes, NarrowsTo, to-none, to-shapes}
 use Rattle.hulls.specs.Book.{Within, end, next}
-use Rattle.hulls.proofs.Order.{within-of, within-size, within-filling}
+use Rattle.hulls.proofs.Order.{within-of, within-size, within-refl, within-filling}
 use Rattle.hulls.proofs.Fill.{filling-size, filling-at, filling-of}
 use Rattle.hulls.proofs.Tight.{tight-same, tight-least, tight-mono, tight-one, tight-sound}
 
@@ -89,9 +89,13 @@ monotone w h j = fewer-within (within-size w) (λ f s. widens w s) h j
 pub none-within : {P : List (List ℕ) → Type 0} {S T : List Block} → Within S T → None P T → None P S
 none-within w n = fewer-none (λ f s. widens w s) n
 
--- the hull is its own hull
+-- what lies between the blocks and their hull has the same hull
+pub between : {P : List (List ℕ) → Type 0} {S T H : List Block} → Hull P S H → Within H T → Within T S → Hull P T H
+between h v w = same-hull (sym (within-size w)) (λ f s. widens v (keeps s h)) (λ f s. widens w s) h
+
+-- so the hull is its own hull
 pub again : {P : List (List ℕ) → Type 0} {S H : List Block} → Hull P S H → Hull P H H
-again h = same-hull (sym (h .size)) (λ f s. keeps s h) (λ f s. widens (hull-within h) s) h
+again h = between h (within-refl _) (hull-within h)
 
 -- rules that imply each other on the fillings of S have the same hull
 pub same-rule : {P Q : List (List ℕ) → Type 0} {S H : List Block} → ((f : List (List ℕ)) → Filling S f → P f → Q f) → ((f : List (List ℕ)) → Filling S f → Q f → P f)

@@ -1,9 +1,9 @@
 -- `Within` is an order, kept by fillings and totals, and read block by block. Assumes nothing.
 use mathlib.Core.Path.{_≡_, refl, ap}
-use mathlib.Core.List.{List, [], _∷_}
-use Prim.Native.Nat.{ℕ, suc, _≤_, _<_}
+use mathlib.Core.List.{List, [], _∷_, _++_}
+use Prim.Native.Nat.{ℕ, zero, suc, _≤_, _<_}
 use native.Mathlib.Omega.{arith}
-use lib.ListN.{length, getD}
+use lib.ListN.{length, getD, take, drop}
 use Rattle.bases.proofs.Sets.{same-base}
 use Rattle.shapes.specs.All.{All, more}
 use Rattle.shapes.specs.Shape.{Block, Run, Filling, done, fill, total, noBlock}
@@ -48,6 +48,24 @@ within-antisym (next p v) (next q w) = let e = inside-antisym p q in let f = wit
 pub within-size : {H S : List Block} → Within H S → length H ≡ length S
 within-size end = refl
 within-size (next p w) = ap suc (within-size w)
+
+-- ---- parts, and lists end to end
+
+pub within-drop : (m : ℕ) {H S : List Block} → Within H S → Within (drop m H) (drop m S)
+within-drop zero w = w
+within-drop (suc m) end = end
+within-drop (suc m) (next p w) = within-drop m w
+
+pub within-take : (n : ℕ) {H S : List Block} → Within H S → Within (take n H) (take n S)
+within-take zero w = end
+within-take (suc n) end = end
+within-take (suc n) (next p w) = next p (within-take n w)
+
+pub within-join : {A B C D : List Block} → Within A B → Within C D → Within (A ++ C) (B ++ D)
+within-join end v = v
+within-join (next p w) v = next p (within-join w v)
+
+-- ---- totals and fillings
 
 pub within-total : {H S : List Block} → Within H S → total H ≤ total S
 unfolding total

@@ -3,16 +3,12 @@ use mathlib.Core.List.{List, [], _∷_}
 use Prim.Native.Nat.{ℕ, _≤_, _<_}
 use lib.ListN.{take, drop}
 use Rattle.bases.specs.Base.{Holds}
-use Rattle.shapes.specs.Shape.{Block, textOf}
+use Rattle.shapes.specs.Shape.{Block}
 use Rattle.hulls.specs.Hull.{None, Hull, Outcome, none, shapes}
 
 -- The n runs from number m, of the choice f: those of a text that has the n blocks from number m.
 abbrev pub part : ℕ → ℕ → List (List ℕ) → List (List ℕ)
 part m n f = take n (drop m f)
-
--- The relation R as a rule of a book, between the text of the n blocks from number m and that of the q blocks from number p.
-abbrev pub Parts : (List ℕ → List ℕ → Type 0) → ℕ → ℕ → ℕ → ℕ → List (List ℕ) → Type 0
-Parts R m n p q f = R (textOf (part m n f)) (textOf (part p q f))
 
 -- The block h has no more room than b.
 pub record Inside (h b : Block) : Type 0 where

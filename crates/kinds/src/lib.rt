@@ -1,9 +1,9 @@
-// Narrowing under the relation of a rule's kind: 0 equal, 1 at most, 2 before.
+// Narrowing two texts under the relation of a rule's kind: 0 equal, 1 at most, 2 before.
 use answers::Checked;
 use answers::Narrowed;
 ghost use Prim.Native.Nat.{_≤_};
 ghost use lib.ListN.{length};
-ghost use Rattle.texts.specs.Kind.{relationOf, lastKind};
+ghost use Rattle.texts.specs.Kind.{relationOf, OfTwo};
 ghost use Rattle.pairs.specs.Pair.{PairAccepted};
 ghost use Rattle.pairs.specs.Narrow.{NarrowAnswer, NarrowPromise};
 
@@ -15,7 +15,7 @@ pub fn narrow_accepted(
     out_x: &mut [u64],
     out_y: &mut [u64],
 ) -> bool
-    requires { ⌜ kind ≤ lastKind ⌝ }
+    requires { ⌜ OfTwo kind ⌝ }
     requires { ⌜ PairAccepted (now x) (now y) ⌝ }
     requires { ⌜ (length (now x) ≤ length (now «out_x»)) × (length (now y) ≤ length (now «out_y»)) ⌝ }
     ensures { λ r. ⌜ NarrowAnswer (relationOf kind) (now (x .entry)) (now (y .entry)) (now («out_x» .entry)) (now («out_y» .entry)) (now («out_x» .exit)) (now («out_y» .exit)) r ⌝ }
@@ -35,7 +35,7 @@ pub fn narrow(
     out_x: &mut [u64],
     out_y: &mut [u64],
 ) -> Narrowed
-    requires { ⌜ kind ≤ lastKind ⌝ }
+    requires { ⌜ OfTwo kind ⌝ }
     ensures { λ r. ⌜ NarrowPromise (relationOf kind) (now (x .entry)) (now (y .entry)) (now (work .entry)) (now («out_x» .entry)) (now («out_y» .entry))
         (now (work .exit)) (now («out_x» .exit)) (now («out_y» .exit)) r ⌝ }
 {

@@ -1,4 +1,4 @@
--- Document 01, "A book and its run": a rule is (kind, a, b). Here and in all crates a rule is this one record, from a file's line to the runner.
+-- Document 01, "A book and its run", and document 02, order 3: a rule is (kind, a, b, c). Here and in all crates a rule is this one record, from a file's line to the runner.
 use mathlib.Core.List.{List, [], _∷_, _++_}
 use Prim.Native.Nat.{ℕ, _+_, _*_, _/_}
 use lib.ListN.{length, getD}
@@ -6,17 +6,18 @@ use Rattle.rules.specs.declared.Rule.{Rule}
 
 -- How many numbers a rule is, and which.
 abbrev pub ruleSize : ℕ
-ruleSize = 3
+ruleSize = 4
 
-abbrev pub ruleWith : ℕ → ℕ → ℕ → Rule
-ruleWith k a b = record { kind = k; a = a; b = b }
+abbrev pub ruleWith : ℕ → ℕ → ℕ → ℕ → Rule
+ruleWith k a b c = record { kind = k; a = a; b = b; c = c }
 
 abbrev pub numbersOf : Rule → List ℕ
-numbersOf r = r .kind ∷ (r .a ∷ (r .b ∷ []))
+numbersOf r = r .kind ∷ (r .a ∷ (r .b ∷ (r .c ∷ [])))
 
 -- Rule j, from 0, of lent numbers, and how many they are.
 abbrev pub ruleAt : List ℕ → ℕ → Rule
-ruleAt rules j = ruleWith (getD rules (j * ruleSize) 0) (getD rules (j * ruleSize + 1) 0) (getD rules (j * ruleSize + 2) 0)
+ruleAt rules j =
+    ruleWith (getD rules (j * ruleSize) 0) (getD rules (j * ruleSize + 1) 0) (getD rules (j * ruleSize + 2) 0) (getD rules (j * ruleSize + 3) 0)
 
 abbrev pub ruleCount : List ℕ → ℕ
 ruleCount rules = length rules / ruleSize
@@ -30,4 +31,5 @@ unfoldable pub rulesOf : List ℕ → List Rule
 rulesOf [] = []
 rulesOf (k ∷ []) = []
 rulesOf (k ∷ (a ∷ [])) = []
-rulesOf (k ∷ (a ∷ (b ∷ xs))) = ruleWith k a b ∷ rulesOf xs
+rulesOf (k ∷ (a ∷ (b ∷ []))) = []
+rulesOf (k ∷ (a ∷ (b ∷ (c ∷ xs)))) = ruleWith k a b c ∷ rulesOf xs

@@ -7,10 +7,14 @@ pub struct Rule {
     pub kind: u64,
     pub a: u64,
     pub b: u64,
+    pub c: u64,
 }
 
 // How many numbers a rule is.
-pub const SIZE: usize = 3;
+pub const SIZE: usize = 4;
+
+// The kind of a join, the one that names three texts.
+pub const JOIN: u64 = 3;
 
 // Rule j, from 0, of lent numbers.
 pub fn rule_at(rules: &[u64], j: usize) -> Rule
@@ -22,5 +26,6 @@ pub fn rule_at(rules: &[u64], j: usize) -> Rule
         kind: rules[at],
         a: rules[at + 1],
         b: rules[at + 2],
+        c: rules[at + 3],
     }
 }

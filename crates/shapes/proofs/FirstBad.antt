@@ -1,11 +1,11 @@
--- There is one first item that lacks P, and none where all have it; and what a search has found. Assumes nothing.
-use mathlib.Core.Path.{_≡_, refl, subst}
+-- There is one first item that lacks P, and none where all have it. Assumes nothing.
+use mathlib.Core.Path.{_≡_, subst}
 use mathlib.Core.Logic.{⊎-elim}
-use Prim.Native.Nat.{ℕ, _+_, _≤_, _<_}
+use Prim.Native.Nat.{ℕ, _<_}
 use native.Mathlib.Omega.{arith}
 use Rattle.answers.specs.Told.{Told}
 use Rattle.bases.proofs.Plain.{lt-or-le}
-use Rattle.shapes.specs.FirstBad.{FirstBad, FirstRefused, UpTo}
+use Rattle.shapes.specs.FirstBad.{FirstBad, FirstRefused}
 
 module _ {n : ℕ} {P : ℕ → Type 0} where
   pub first-bad-one : {i j : ℕ} → FirstBad n P i → FirstBad n P j → i ≡ j
@@ -22,9 +22,3 @@ module _ {n : ℕ} {P : ℕ → Type 0} where
   first-refused-one {R} {u = u} one f g =
       let same : g .first .before ≡ f .first .before = let p = f .first .place in let q = g .first .place in let e = first-bad-one (f .first) (g .first) in omega arith in
       one (f .first .before) (f .refused) (subst (λ (k : ℕ). R k u) same (g .refused))
-
-  pub up-to-first : {r : ℕ} → UpTo n P r → r < n → FirstBad n P (r + 1)
-  up-to-first {r} u l = record { before = r; place = refl; within = l; good = u .good; bad = u .bad l }
-
-  pub up-to-all : {r : ℕ} → UpTo n P r → n ≤ r → (j : ℕ) → j < n → P j
-  up-to-all u l j h = u .good j (omega arith)

@@ -1,6 +1,6 @@
 -- The first of n items that lacks P: blocks of a shape, texts and rules of a book. Items count from 0, their numbers from 1.
 use mathlib.Core.Path.{_≡_}
-use Prim.Native.Nat.{ℕ, _+_, _≤_, _<_}
+use Prim.Native.Nat.{ℕ, _+_, _<_}
 use Rattle.answers.specs.Told.{Told}
 
 pub record FirstBad (n : ℕ) (P : ℕ → Type 0) (i : ℕ) : Type 0 where
@@ -14,9 +14,3 @@ pub record FirstBad (n : ℕ) (P : ℕ → Type 0) (i : ℕ) : Type 0 where
 pub record FirstRefused (n : ℕ) (P : ℕ → Type 0) (R : ℕ → Told → Type 0) (i : ℕ) (t : Told) : Type 0 where
   pub first : FirstBad n P i
   pub refused : R (first .before) t
-
--- What a search answers: the first r items have P, and the next, if there is one, does not.
-pub record UpTo (n : ℕ) (P : ℕ → Type 0) (r : ℕ) : Type 0 where
-  pub within : r ≤ n
-  pub good : (j : ℕ) → j < r → P j
-  pub bad : r < n → P r → ⊥

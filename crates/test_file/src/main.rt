@@ -5,23 +5,15 @@
 //
 // A report of k bytes, k in hex, and the bytes of a file as hex pairs, `-` if it is empty. The report is shown with `/` for
 // each newline; e counts the untouched bytes at its end, all of them where the file is refused.
-ghost use mathlib.Core.Path.{_≡_};
-ghost use lib.ListN.{length};
 use answers::Written;
 use test_lines::fields::find;
 use test_lines::fields::first_field;
 use test_lines::fields::later_fields;
 use test_lines::fields::read_text;
 use test_lines::fields::read_words;
+use test_lines::fields::room;
 use test_lines::fields::within;
 use test_lines::show;
-
-// Room for all of the input.
-fn room() -> [u8; 900000]
-    ensures { λ r. ⌜ 900000 ≡ length r ⌝ }
-{
-    [0; 900000]
-}
 
 fn main() {
     let mut input = room();

@@ -9,11 +9,11 @@ use lib.Seq.{take-at}
 use Rattle.shapes.specs.Lent.{Numbers, shapeOf, wordsOf}
 use Rattle.shapes.proofs.All.{all-of}
 use Rattle.shapes.proofs.Numbers.{words-shape}
-use Rattle.books.specs.Refused.{BookAccepted, BookChecked}
-use Rattle.book_laying.specs.Laid.{replaced}
+use Rattle.books.specs.Refused.{BookAccepted, BookChecked, SoundRules}
+use Rattle.laying.specs.Laid.{replaced}
 use Rattle.book_steps.specs.Step.{Standing}
 use Rattle.book_runs.specs.Runner.{EndedSays}
-use Rattle.book_laying.proofs.Laid.{front-back, all-over}
+use Rattle.laying.proofs.Laid.{front-back, all-over}
 use Rattle.book_steps.proofs.Standing.{standing-first, few-blocks}
 use Rattle.book_runs.proofs.run_book.Statement.{statement}
 use Rattle.book_runs.proofs.run_book.Tie as tie
@@ -56,11 +56,12 @@ slice-aggregate-run-rounds c = sym (ap length (front (c .before .before)))
 
 run-rounds-requires : tie.Need-run-rounds-requires
 run-rounds-requires c κs =
+    let args = c .before .before .before .before .before .before .before .before .before .before .before .before .before .before .before .before .before .args in
     let a = accepted (c .before .before .before .before .before .before .before .before .before) in
     record {
       texts = record { each = a .counted .each; few = a .counted .few-texts; standing = subst (Standing _) (sym (front (c .before .before))) (standing-first a) };
       few-rules = a .counted .few-rules;
-      right = a .right;
+      right = subst (λ (l : List ℕ). SoundRules (args .counts .now) (shapeOf l) (args .rules .now)) (sym (front (c .before .before))) (a .right);
     }
 
 enum-known-m : tie.Need-enum-known-m

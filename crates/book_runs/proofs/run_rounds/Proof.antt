@@ -13,6 +13,8 @@ use Rattle.shapes.specs.Lent.{shapeOf}
 use Rattle.book_runs.specs.Room.{roomOf}
 use Rattle.rules.specs.Rule.{ruleCount}
 use Rattle.books.specs.Rules.{ruleOf}
+use Rattle.books.specs.Refused.{SoundRules}
+use Rattle.books.proofs.Joinable.{rules-within}
 use Rattle.book_runs.specs.Code.{owed, Made}
 use Rattle.book_steps.specs.Step.{Standing, AppliedSays}
 use Rattle.hulls.proofs.Hull.{hull-within}
@@ -27,7 +29,7 @@ use Rattle.book_runs.proofs.run_rounds.Tie as tie
 abbrev Inv-loop : tie.InvT-loop
 Inv-loop counts numbers₀ rules n k₀ changed₀ made₀ numbers k changed made =
     (n ≡ ruleCount rules) × (k ≤ n) × (length numbers ≡ length numbers₀) × Standing counts numbers × All Small (shapeOf numbers)
-    × Made (ruleCount rules) (ruleOf counts rules) (shapeOf numbers₀) (shapeOf numbers) k changed made
+    × Made (ruleCount rules) (ruleOf counts rules) (shapeOf numbers₀) (shapeOf numbers) k changed made × SoundRules counts (shapeOf numbers) rules
 
 abbrev μ-loop : tie.MeasureT-loop
 μ-loop counts numbers₀ rules n k₀ changed₀ made₀ numbers k changed made = 2 * (ruleCount rules * roomOf (shapeOf numbers₀) + ruleCount rules + 1 - made) + owed changed 1
@@ -42,6 +44,7 @@ loop-holds c =
       s .pre .texts .standing,
       small-bases xs (all-of xs 0 (λ i h. c .before .slice-known .given i .fits)),
       made-start,
+      s .pre .right,
     )
 
 same-length : tie.Need-same-length Inv-loop μ-loop
@@ -59,13 +62,13 @@ loop-less c =
 loop-again : tie.Need-loop-again Inv-loop μ-loop
 loop-again c =
     let l = c .before .before .loop in
-    (refl, omega arith, l .inv .2, l .inv .3, l .inv .4, made-round (l .inv .5) (c .before .if1 .taken) (not-false _ (c .if2 .left)))
+    (refl, omega arith, l .inv .2, l .inv .3, l .inv .4, made-round (l .inv .5) (c .before .if1 .taken) (not-false _ (c .if2 .left)), l .inv .6)
 
 apply-rule-requires : tie.Need-apply-rule-requires Inv-loop μ-loop
 apply-rule-requires c κs =
     let l = c .before .before .loop in
     let p = c .before .before .before .before .before .before .pre in (
-      record { texts = record { each = p .texts .each; few = p .texts .few; standing = l .inv .3 }; few-rules = p .few-rules; right = p .right },
+      record { texts = record { each = p .texts .each; few = p .texts .few; standing = l .inv .3 }; few-rules = p .few-rules; right = l .inv .6 },
       (let other = c .before .if1 .left in omega arith),
     )
 
@@ -95,7 +98,8 @@ returns-2 : tie.Need-returns-2 Inv-loop μ-loop
 returns-2 c =
     let l = c .before .before .before .before .before .before .before .loop in
     let r = c .before .before .before .before .apply-rule in
-    made-none (l .inv .5) (within (c .before .before .before .before)) (subst (AppliedSays _ _ (l .k) (l .numbers) (r .last .1 .0)) (c .enum-told .given .1) (r .ensures))
+    let s = c .before .before .before .before .before .before .before .before .before .before .before in
+    made-none (l .inv .5) (within (c .before .before .before .before)) (subst (AppliedSays (s .args .counts .now) (s .args .rules .now) (l .k) (l .numbers) (r .last .1 .0)) (c .enum-told .given .1) (r .ensures))
 
 enum-told-2 : tie.Need-enum-told-2 Inv-loop μ-loop
 enum-told-2 c = search needs
@@ -122,6 +126,7 @@ loop-again-2 c =
       subst (Standing (s .args .counts .now)) (sym (says .1)) (l .inv .3),
       subst (λ (x : List ℕ). All Small (shapeOf x)) (sym (says .1)) (l .inv .4),
       subst (λ (x : List ℕ). Made (ruleCount (s .args .rules .now)) (ruleOf (s .args .counts .now) (s .args .rules .now)) (shapeOf (s .args .numbers .now)) (shapeOf x) (l .k + 1) (l .changed) (l .made + 1)) (sym (says .1)) (made-same (l .inv .5) small (says .0)),
+      subst (λ (x : List ℕ). SoundRules (s .args .counts .now) (shapeOf x) (s .args .rules .now)) (sym (says .1)) (l .inv .6),
     )
 
 enum-told-3 : tie.Need-enum-told-3 Inv-loop μ-loop
@@ -149,6 +154,7 @@ loop-again-3 c =
       standing-next (l .inv .3) (says .0) (r .kept .1 .0),
       within-small (hull-within (says .0)) (l .inv .4),
       made-changed (l .inv .5) (blocks-sound (l .inv .3)) (l .inv .4) small (says .0) (says .1),
+      rules-within (hull-within (says .0)) (l .inv .6),
     )
 
 pub run-rounds-spec : {M : Type 1} → statement M

@@ -1,13 +1,14 @@
 -- `book_steps::lay_text`: the numbers at the text's place, compared with the new ones and laid over. Assumes nothing.
-use mathlib.Core.Path.{_≡_, sym, ap, _∙_}
+use mathlib.Core.Path.{_≡_, refl, sym, ap, _∙_}
 use Prim.Native.Nat.{ℕ, _+_, _-_, _≤_}
 use native.Mathlib.Omega.{arith}
 use lib.ListN.{length, take, drop, length-drop}
 use lib.Seq.{length-take-le}
-use Rattle.bases.proofs.Tells.{tells-true, tells-false}
-use Rattle.book_laying.specs.Laid.{replaced}
-use Rattle.book_laying.proofs.Laid.{stood-there}
-use Rattle.book_steps.proofs.Texts.{at, laid-is, compared}
+use Rattle.bases.proofs.Tells.{tells-false}
+use Rattle.laying.specs.Laid.{replaced}
+use Rattle.laying.proofs.Laid.{stood-there}
+use Rattle.book_steps.proofs.Laid.{tells-kept}
+use Rattle.book_steps.proofs.Texts.{at, laid-is, laid-differs}
 use borrow.Author.Needs.{needs}
 use Rattle.book_steps.proofs.lay_text.Statement.{statement}
 use Rattle.book_steps.proofs.lay_text.Tie as tie
@@ -72,7 +73,7 @@ returns c =
     let same = c .before .same-numbers .ensures .so (c .if1 .taken) in
     let stands : replaced (p .from) (take (p .to - p .from) x) xs ≡ xs = stood-there (p .from) (take (p .to - p .from) x) xs
     (ap (λ (n : ℕ). take n (drop (p .from) xs)) size ∙ same) (let h = within q in omega arith) in
-    (tells-true (compared (q .place-of .ensures) x xs (c .before .same-numbers .ensures) .so (c .if1 .taken)), sym stands ∙ laid-is (q .place-of .ensures) x xs)
+    (tells-kept (q .before .before .before .before .args .same) refl, sym stands ∙ laid-is (q .place-of .ensures) x xs)
 
 slice-aggregate-lay : tie.Need-slice-aggregate-lay
 slice-aggregate-lay c = sym (new-size (c .before .before .before .before .before .before .before))
@@ -88,8 +89,9 @@ returns-2 c =
     let q = c .before .before .before .before .before .before .before .before .before .before in
     let xs = q .before .before .before .before .args .numbers .now in
     let x = q .before .before .before .before .args .x .now in
-    let other = compared (q .place-of .ensures) x xs (c .before .before .before .before .before .before .same-numbers .ensures) .not-so (c .before .before .before .before .before .if1 .left) in
-    (tells-false other, c .before .before .lay .ensures ∙ laid-is (q .place-of .ensures) x xs)
+    let laid = c .before .before .lay .ensures in
+    let other = c .before .before .before .before .before .before .same-numbers .ensures .not-so (c .before .before .before .before .before .if1 .left) in
+    (tells-false (λ h. laid-differs (q .place-of .ensures) x xs (new-size q) (within q) other laid (h .1)), laid ∙ laid-is (q .place-of .ensures) x xs)
 
 pub lay-text-spec : {M : Type 1} → statement M
 lay-text-spec =

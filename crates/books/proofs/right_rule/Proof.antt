@@ -1,4 +1,4 @@
--- `books::right_rule`: the kind, the two texts, and that they are two. Assumes nothing.
+-- `books::right_rule`: the kind, the first two texts, that they are two, and the fourth number. Assumes nothing.
 use native.Mathlib.Omega.{arith}
 use borrow.Author.Needs.{needs}
 use borrow.Author.Tests.{not-true, not-false}
@@ -24,16 +24,26 @@ returns-3 c = tells-false (λ r. c .before .names2 .ensures .not-so (not-true _ 
 returns-4 : tie.Need-returns-4
 returns-4 c = tells-false (λ r. r .two (c .if4 .taken))
 
+right-fourth-requires : tie.Need-right-fourth-requires
+right-fourth-requires c κs = search needs
+
 returns-5 : tie.Need-returns-5
-returns-5 c =
-    let p = c .before .before in
+returns-5 c = tells-false (λ r. c .before .right-fourth .ensures .not-so (not-true _ (c .if5 .taken)) (r .fourth))
+
+returns-6 : tie.Need-returns-6
+returns-6 c =
+    let q = c .before .before in
+    let p = q .before .before in
     tells-true
     (record {
       known = let z = p .before .before .before .before .if1 .left in omega arith;
       first = p .before .before .before .names .ensures .so (not-false _ (p .before .before .if2 .left));
       second = p .before .names2 .ensures .so (not-false _ (p .if3 .left));
-      two = c .if4 .left;
+      two = q .if4 .left;
+      fourth = c .before .right-fourth .ensures .so (not-false _ (c .if5 .left));
     })
 
 pub right-rule-spec : {M : Type 1} → statement M
-right-rule-spec = tie.close (tie.spec returns names-requires returns-2 names-requires-2 returns-3 returns-4 returns-5)
+right-rule-spec =
+    tie.close
+    (tie.spec returns names-requires returns-2 names-requires-2 returns-3 returns-4 right-fourth-requires returns-5 returns-6)

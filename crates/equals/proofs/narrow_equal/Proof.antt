@@ -1,7 +1,4 @@
--- `equals::narrow_equal`: the last row of the first pass tells whether there is a pair. Assumes nothing.
-use native.Mathlib.Omega.{arith}
-use borrow.Author.Tests.{not-true, not-false}
-use Rattle.equals.proofs.Equal.{joined-of, says-none, says-some}
+-- `equals::narrow_equal`: there is room for two rows of each of 32 blocks. Assumes nothing.
 use borrow.Author.Needs.{needs}
 use Rattle.equals.proofs.narrow_equal.Statement.{statement}
 use Rattle.equals.proofs.narrow_equal.Tie as tie
@@ -12,77 +9,14 @@ blank-requires c κs = search needs
 blank-requires-2 : tie.Need-blank-requires-2
 blank-requires-2 c κs = search needs
 
-blank-requires-3 : tie.Need-blank-requires-3
-blank-requires-3 c κs = search needs
+slice-aggregate-narrow-rows : tie.Need-slice-aggregate-narrow-rows
+slice-aggregate-narrow-rows c = search needs
 
-slice-aggregate-lay : tie.Need-slice-aggregate-lay
-slice-aggregate-lay c = search needs
+slice-aggregate-narrow-rows-2 : tie.Need-slice-aggregate-narrow-rows-2
+slice-aggregate-narrow-rows-2 c = search needs
 
-slice-aggregate-lay-2 : tie.Need-slice-aggregate-lay-2
-slice-aggregate-lay-2 c = search needs
-
-slice-aggregate-lay-3 : tie.Need-slice-aggregate-lay-3
-slice-aggregate-lay-3 c = search needs
-
-lay-requires : tie.Need-lay-requires
-lay-requires c κs = search needs
-
-blank-requires-4 : tie.Need-blank-requires-4
-blank-requires-4 c κs = search needs
-
-blank-table-requires : tie.Need-blank-table-requires
-blank-table-requires c κs = search needs
-
-slice-aggregate-forth : tie.Need-slice-aggregate-forth
-slice-aggregate-forth c = search needs
-
-slice-aggregate-forth-2 : tie.Need-slice-aggregate-forth-2
-slice-aggregate-forth-2 c = search needs
-
-slice-aggregate-forth-3 : tie.Need-slice-aggregate-forth-3
-slice-aggregate-forth-3 c = search needs
-
-slice-aggregate-forth-4 : tie.Need-slice-aggregate-forth-4
-slice-aggregate-forth-4 c = search needs
-
-slice-aggregate-forth-5 : tie.Need-slice-aggregate-forth-5
-slice-aggregate-forth-5 c = search needs
-
-forth-requires : tie.Need-forth-requires
-forth-requires c κs =
-    let s = c .before .before .before .before .before .before .before .before .before .before .before .before .before .before .before .before .before .before .before .before .before .pre in
-    let few = s .1 .0 in
-    (s .0, (c .before .before .before .before .before .before .before .before .before .before .lay .ensures .1, ((search needs, search needs, search needs), (search needs, search needs))))
-
-has-requires : tie.Need-has-requires
-has-requires c κs = let m = c .before .before .before .before .before .before .before .before .before .before .before .before .before .lay .ensures .0 in let short = c .before .before .before .before .before .before .before .before .before .before .before .before .before .before .before .before .before .before .before .before .before .before .before .before .pre .0 .1 .short in omega arith
-
-returns : tie.Need-returns
-returns c =
-    let s = c .before .before .before .before .before .before .before .before .before .before .before .before .before .before .before .before .before .before .before .before .before .before .before .before .before .before .pre in
-    says-none (s .0 .0) (s .0 .1) (c .before .before .before .before .forth .ensures .0) (c .before .before .before .before .before .before .before .before .before .before .before .before .before .before .before .lay .ensures .0) (c .before .has .ensures .not-so (not-true _ (c .if1 .taken)))
-
-slice-aggregate-narrow-live : tie.Need-slice-aggregate-narrow-live
-slice-aggregate-narrow-live c = search needs
-
-slice-aggregate-narrow-live-2 : tie.Need-slice-aggregate-narrow-live-2
-slice-aggregate-narrow-live-2 c = search needs
-
-slice-aggregate-narrow-live-3 : tie.Need-slice-aggregate-narrow-live-3
-slice-aggregate-narrow-live-3 c = search needs
-
-slice-aggregate-narrow-live-4 : tie.Need-slice-aggregate-narrow-live-4
-slice-aggregate-narrow-live-4 c = search needs
-
-slice-aggregate-narrow-live-5 : tie.Need-slice-aggregate-narrow-live-5
-slice-aggregate-narrow-live-5 c = search needs
-
-narrow-live-requires : tie.Need-narrow-live-requires
-narrow-live-requires c κs =
-    let s = c .before .before .before .before .before .before .before .before .before .before .before .before .before .before .before .before .before .before .before .before .before .before .before .before .before .before .before .before .before .before .before .before .before .pre in
-    let t = c .before .before .before .before .before .before .before .before .before .before .before .forth .ensures .0 in
-    let joined = joined-of t (c .before .before .before .before .before .before .before .before .before .before .before .before .before .before .before .before .before .before .before .before .before .before .lay .ensures .0) (c .before .before .before .before .before .before .before .before .has .ensures .so (not-false _ (c .before .before .before .before .before .before .before .if1 .left))) in
-    (s .0, (s .1 .0, (s .1 .1, ((search needs, search needs, search needs, search needs, search needs), (c .before .before .before .before .before .before .before .before .before .before .before .before .before .before .before .before .before .before .before .before .before .before .lay .ensures .1, (t, joined))))))
+narrow-rows-requires : tie.Need-narrow-rows-requires
+narrow-rows-requires c κs = let s = c .before .before .before .before .before .before .before .before .before .before .pre in (s .0, ((search needs, search needs, s .1 .0 .1), s .1 .1))
 
 same-length : tie.Need-same-length
 same-length c = search needs
@@ -90,8 +24,8 @@ same-length c = search needs
 same-length-2 : tie.Need-same-length-2
 same-length-2 c = search needs
 
-returns-2 : tie.Need-returns-2
-returns-2 c = says-some (c .before .before .before .before .narrow-live .ensures)
+returns : tie.Need-returns
+returns c = search needs
 
 pub narrow-equal-spec : {M : Type 1} → statement M
 narrow-equal-spec =
@@ -99,27 +33,9 @@ narrow-equal-spec =
     (tie.spec
     blank-requires
     blank-requires-2
-    blank-requires-3
-    slice-aggregate-lay
-    slice-aggregate-lay-2
-    slice-aggregate-lay-3
-    lay-requires
-    blank-requires-4
-    blank-table-requires
-    slice-aggregate-forth
-    slice-aggregate-forth-2
-    slice-aggregate-forth-3
-    slice-aggregate-forth-4
-    slice-aggregate-forth-5
-    forth-requires
-    has-requires
-    returns
-    slice-aggregate-narrow-live
-    slice-aggregate-narrow-live-2
-    slice-aggregate-narrow-live-3
-    slice-aggregate-narrow-live-4
-    slice-aggregate-narrow-live-5
-    narrow-live-requires
+    slice-aggregate-narrow-rows
+    slice-aggregate-narrow-rows-2
+    narrow-rows-requires
     same-length
     same-length-2
-    returns-2)
+    returns)

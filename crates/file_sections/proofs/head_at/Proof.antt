@@ -5,8 +5,8 @@ use native.Mathlib.Omega.{arith}
 use lib.Seq.{length-take-le}
 use Rattle.file_lines.specs.Book.{headLine}
 use Rattle.file_lines.specs.Lines.{First, FoundIn, HeadRead}
+use Rattle.file_lines.proofs.Split.{leads-is, leads-none, leads-missing}
 use Rattle.file_sections.proofs.Newline.{without-head}
-use Rattle.file_sections.proofs.Parts.{line-is, line-none, line-missing}
 use borrow.Author.Needs.{needs}
 use Rattle.file_sections.proofs.head_at.Statement.{statement}
 use Rattle.file_sections.proofs.head_at.Tie as tie
@@ -40,13 +40,13 @@ add-t12 : tie.Need-add-t12
 add-t12 c = let h = found (c .before .before .before .before .before .before) .within in omega arith
 
 returns : tie.Need-returns
-returns c = line-missing (λ (k : ℕ). k ≤ c .before .before .before .before .before .args .most) (headLine (c .before .before .before .before .before .args .word .now)) (c .before .before .before .before .before .args .bytes .now) (subst (FoundIn 10 _) (c .enum-told .given .1) (c .before .before .find .ensures))
+returns c = leads-missing 10 (λ (k : ℕ). k ≤ c .before .before .before .before .before .args .most) (headLine (c .before .before .before .before .before .args .word .now)) (c .before .before .before .before .before .args .bytes .now) (subst (FoundIn 10 _) (c .enum-told .given .1) (c .before .before .find .ensures))
 
 returns-2 : tie.Need-returns-2
-returns-2 c = line-none (λ (k : ℕ). k ≤ c .before .before .before .before .before .before .before .before .before .before .args .most) (headLine (c .before .before .before .before .before .before .before .before .before .before .args .word .now)) (c .before .before .before .before .before .before .before .before .before .before .args .bytes .now) (λ n h. without-head (c .before .before .before .before .before .before .before .before .before .before .args .word .now) n (c .before .before .before .before .before .before .before .before .before .before .pre .1)) _ (found (c .before .before .before .before .before)) (subst (HeadRead _ _ _) (c .enum-told2 .given .1) (c .before .before .read-head .ensures))
+returns-2 c = leads-none 10 (λ (k : ℕ). k ≤ c .before .before .before .before .before .before .before .before .before .before .args .most) (headLine (c .before .before .before .before .before .before .before .before .before .before .args .word .now)) (c .before .before .before .before .before .before .before .before .before .before .args .bytes .now) (λ n h. without-head (c .before .before .before .before .before .before .before .before .before .before .args .word .now) n (c .before .before .before .before .before .before .before .before .before .before .pre .1)) _ (found (c .before .before .before .before .before)) (subst (HeadRead _ _ _) (c .enum-told2 .given .1) (c .before .before .read-head .ensures))
 
 returns-3 : tie.Need-returns-3
-returns-3 c = line-is (λ (k : ℕ). k ≤ c .before .before .before .before .before .before .before .before .before .before .before .args .most) (headLine (c .before .before .before .before .before .before .before .before .before .before .before .args .word .now)) (c .before .before .before .before .before .before .before .before .before .before .before .args .bytes .now) _ _ (found (c .before .before .before .before .before .before)) (subst (HeadRead _ _ _) (c .before .n .given .1) (c .before .before .before .read-head .ensures))
+returns-3 c = leads-is 10 (λ (k : ℕ). k ≤ c .before .before .before .before .before .before .before .before .before .before .before .args .most) (headLine (c .before .before .before .before .before .before .before .before .before .before .before .args .word .now)) (c .before .before .before .before .before .before .before .before .before .before .before .args .bytes .now) _ _ (found (c .before .before .before .before .before .before)) (subst (HeadRead _ _ _) (c .before .n .given .1) (c .before .before .before .read-head .ensures))
 
 pub head-at-spec : {M : Type 1} → statement M
 head-at-spec =

@@ -3,9 +3,9 @@ use mathlib.Core.Path.{sym, subst}
 use native.Mathlib.Omega.{arith}
 use lib.Seq.{length-take-le}
 use Rattle.file_lines.specs.Lines.{First, FoundIn}
+use Rattle.file_lines.proofs.Split.{leads-is, leads-none, leads-missing}
 use Rattle.file_sections.specs.Items.{RightItem, lineOf}
 use Rattle.file_sections.specs.Parts.{LineRead}
-use Rattle.file_sections.proofs.Parts.{line-is, line-none, line-missing}
 use Rattle.file_sections.proofs.Views.{without-item}
 use borrow.Author.Needs.{needs}
 use Rattle.file_sections.proofs.line_at.Statement.{statement}
@@ -41,10 +41,10 @@ returns c =
     let s = c .before .before .before .before .before .before .before .before .before .before .before .before in
     let l = c .before .before .before .read-line in
     let read = subst (LineRead (s .args .item) _ (s .args .at) (s .args .out .now) (l .last .1 .1 .0)) (c .if1 .taken) (l .ensures) in
-    record { item-is = read .item-is; line = line-is (RightItem (s .args .item)) (lineOf (s .args .item)) _ _ _ (found (c .before .before .before .before .before .before .before)) (read .says); stored = read .stored }
+    record { item-is = read .item-is; line = leads-is 10 (RightItem (s .args .item)) (lineOf (s .args .item)) _ _ _ (found (c .before .before .before .before .before .before .before)) (read .says); stored = read .stored }
 
 returns-2 : tie.Need-returns-2
-returns-2 c = line-missing (RightItem (c .before .before .before .before .before .args .item)) (lineOf (c .before .before .before .before .before .args .item)) _ (subst (FoundIn 10 _) (c .enum-told .given .1) (c .before .before .find .ensures))
+returns-2 c = leads-missing 10 (RightItem (c .before .before .before .before .before .args .item)) (lineOf (c .before .before .before .before .before .args .item)) _ (subst (FoundIn 10 _) (c .enum-told .given .1) (c .before .before .find .ensures))
 
 same-length-2 : tie.Need-same-length-2
 same-length-2 c = search needs
@@ -54,7 +54,7 @@ returns-3 c =
     let s = c .before .before .before .before .before .before .before .before .before .before .before .before in
     let l = c .before .before .before .read-line in
     let read = subst (LineRead (s .args .item) _ (s .args .at) (s .args .out .now) (l .last .1 .1 .0)) (c .if1 .left) (l .ensures) in
-    line-none (RightItem (s .args .item)) (lineOf (s .args .item)) _ (λ xs r. without-item (s .args .item) xs) _ (found (c .before .before .before .before .before .before .before)) read
+    leads-none 10 (RightItem (s .args .item)) (lineOf (s .args .item)) _ (λ xs r. without-item (s .args .item) xs) _ (found (c .before .before .before .before .before .before .before)) read
 
 pub line-at-spec : {M : Type 1} → statement M
 line-at-spec =

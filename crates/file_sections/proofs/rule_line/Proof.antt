@@ -1,10 +1,10 @@
--- `file_sections::rule_line`: a rule's line, its numbers stored. Assumes nothing.
+-- `file_sections::rule_line`: a rule's line, its four numbers stored. Assumes nothing.
 use mathlib.Core.Path.{refl, subst}
-use mathlib.Core.List.{[], _∷_}
 use native.Mathlib.Numerals.{towards-suc}
 use native.Mathlib.Omega.{arith}
 use lib.ListN.{length-set}
-use Rattle.file_lines.specs.Lines.{TripleRead}
+use Rattle.rules.specs.Rule.{numbersOf}
+use Rattle.file_lines.specs.Lines.{RuleRead}
 use Rattle.file_sections.proofs.Views.{ruleIn}
 use borrow.Author.Needs.{needs}
 use Rattle.file_sections.proofs.rule_line.Statement.{statement}
@@ -16,8 +16,8 @@ read-rule-requires c κs = search needs
 enum-told : tie.Need-enum-told
 enum-told c = search needs
 
-enum-known-k : tie.Need-enum-known-k
-enum-known-k c = search needs
+enum-known-r : tie.Need-enum-known-r
+enum-known-r c = search needs
 
 mul-out : tie.Need-mul-out
 mul-out c = search needs
@@ -43,17 +43,25 @@ mul-out-3 c = search needs
 slice-write-out-3 : tie.Need-slice-write-out-3
 slice-write-out-3 c = simp length-set (omega arith)
 
+add-out-3 : tie.Need-add-out-3
+add-out-3 c = search needs
+
+mul-out-4 : tie.Need-mul-out-4
+mul-out-4 c = search needs
+
+slice-write-out-4 : tie.Need-slice-write-out-4
+slice-write-out-4 c = simp length-set (omega arith)
+
 returns : tie.Need-returns
-returns c = λ xs r e. subst (TripleRead _) (c .enum-told .given .1) (c .before .before .read-rule .ensures) (ruleIn xs) (r .1) e
+returns c = λ xs r e. subst (RuleRead _) (c .enum-told .given .1) (c .before .before .read-rule .ensures) (ruleIn xs) (r .1) e
 
 same-length : tie.Need-same-length
 same-length c = search needs
 
 returns-2 : tie.Need-returns-2
 returns-2 c =
-    let g = c .before .k .given .0 in
-    let read = subst (TripleRead _) (c .before .k .given .1) (c .before .before .before .read-rule .ensures) in
-    record { item-is = g .0 ∷ (g .1 .0 ∷ (g .1 .1 .0 ∷ [])); says = ((refl, read .0), read .1); stored = simp towards-suc }
+    let read = subst (RuleRead _) (c .before .r .given .1) (c .before .before .before .read-rule .ensures) in
+    record { item-is = numbersOf (c .before .r .given .0 .0); says = ((refl, read .0), read .1); stored = simp towards-suc }
 
 pub rule-line-spec : {M : Type 1} → statement M
 rule-line-spec =
@@ -61,7 +69,7 @@ rule-line-spec =
     (tie.spec
     read-rule-requires
     enum-told
-    enum-known-k
+    enum-known-r
     mul-out
     slice-write-out
     add-out
@@ -70,6 +78,9 @@ rule-line-spec =
     add-out-2
     mul-out-3
     slice-write-out-3
+    add-out-3
+    mul-out-4
+    slice-write-out-4
     returns
     same-length
     returns-2)

@@ -1,0 +1,6 @@
+-- The laws of a join.
+pub mod Turned
+pub mod Line
+pub mod Join
+pub mod Refused
+pub mod Determined
