@@ -1,5 +1,6 @@
 // Times the proved calls beside the plain C functions, in one run, and prints each ratio. First the answers of all sides are compared.
 #include "plain.h"
+#include "wedgeotter.h"
 #include <stdio.h>
 #include <stdlib.h>
 #include <string.h>
@@ -379,8 +380,16 @@ static uint64_t run_anew(running *run) {
 
 static uint8_t file[16384], report[SIDES][16384];
 
+// The call for a host in C, with lent work.
+static uint64_t hosted(size_t n, uint8_t *report) {
+    int64_t answer = wedgeotter_run_file(file, n, report, 16384, work, sizeof work);
+    return answer < 0 ? REFUSED : (uint64_t)answer;
+}
+
 static void same_files(size_t n) {
+    static uint8_t host_report[16384];
     uint64_t ours = wedgeotter_file(file, n, report[0], sizeof report[0]);
+    same(ours == hosted(n, host_report) && memcmp(report[0], host_report, sizeof host_report) == 0, "file from C");
     for (int side = 1; side < SIDES; side++)
         same(ours == file_of[side](file, n, report[side], sizeof report[side]) && memcmp(report[0], report[side], sizeof report[0]) == 0, "file");
 }
@@ -405,11 +414,16 @@ static void files(const char *what, const char *size) {
         file[at] = was;
         same_files(rnd(n));
     }
-    double best[SIDES] = {0};
-    TURNS(2)
+    double best[SIDES] = {0}, host = 0;
+    TURNS(2) {
         for (int side = 0; side < SIDES; side++) TIME(best[side], 0, 1, file_of[side](file, n, report[side], sizeof report[side]));
+        TIME(host, 0, 1, hosted(n, report[0]));
+    }
     show(what, size, SIDES, best);
     printf("           %d applications, %d bytes\n", (int)made, (int)n);
+    best[0] = host;
+    show("from C", size, SIDES, best);
+    puts("");
 }
 
 // A book run by all sides.

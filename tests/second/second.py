@@ -9,8 +9,8 @@ print. Nothing in it is taken from the proved library.
     second.py report           reads a book's file and prints the report that is due
     second.py example          prints document 01's book, its rule of four numbers
 
-NAME is base, sweep, narrow, common, book or file. A case is a line, its fields parted by single blanks. A number is
-lowercase hex without needless zeros. A list is its count and then its numbers; a shape is lent as any
+NAME is base, sweep, narrow, common, book, file or host. A case is a line, its fields parted by single blanks. A number
+is lowercase hex without needless zeros. A list is its count and then its numbers; a shape is lent as any
 count of 64-bit numbers, also none. Expected counts, and what a refusal tells, are decimal.
 
 base. A text is its bytes as hex pairs, `-` if it is empty. The words w are the rest of the line.
@@ -53,6 +53,13 @@ file. A report of k bytes, each 0x5a, and the file's bytes as hex pairs, `-` if 
 shown with `/` for each newline; e counts the untouched bytes at its end, all of them where the file is refused.
 
     F k file         report length text rest e | refused number text place rest e
+
+host. The call of the bench host, which tests/host/check.c makes; nothing is stored of it. A report buffer of r bytes, a
+work buffer of k bytes, and the book's bytes as hex pairs, `-` if there are none. Shown are the number given back, the
+bytes written as hex pairs, whether the rest of the report is as found, and the work: zeroed where its first 63,001
+bytes are 0 and the rest as found, kept where all of it is as found.
+
+    r k book         length bytes kept zeroed | -number - kept kept
 """
 
 import sys
@@ -61,10 +68,11 @@ import base
 import book
 import common
 import file
+import host
 import narrow
 import sweep
 
-NAMES = {"base": base, "sweep": sweep, "narrow": narrow, "common": common, "book": book, "file": file}
+NAMES = {"base": base, "sweep": sweep, "narrow": narrow, "common": common, "book": book, "file": file, "host": host}
 
 # More than a stored output should have.
 OUTPUT_ROOM = 1_200_000

@@ -1,7 +1,8 @@
--- What a refusal tells determines it. Assumes nothing.
+-- What a refusal tells determines it, and its number is a small one above 0. Assumes nothing.
 use mathlib.Core.Path.{_≡_, refl, sym, ap, _∙_}
 use mathlib.Core.List.{[], _∷_}
-use Prim.Native.Nat.{ℕ}
+use Prim.Native.Nat.{ℕ, _≤_}
+use native.Mathlib.Omega.{arith}
 use lib.ListN.{getD}
 use Rattle.answers.specs.declared.Refusal.{Refusal}
 use Rattle.answers.specs.declared.Refusal.the-variants.{Length, Crossed, TooLarge, Disagree, Total, Work, Output, Counts, Rule, Join, Line, Size}
@@ -30,3 +31,17 @@ back Size = refl
 
 pub told-one : (r s : Refusal) → told r ≡ told s → r ≡ s
 told-one r s e = sym (back r) ∙ ap (λ (t : Told). of (t .number) (t .text) (t .place)) e ∙ back s
+
+pub numbered : (r : Refusal) → (1 ≤ told r .number) × (told r .number ≤ 255)
+numbered (Length s) = (omega arith, omega arith)
+numbered (Crossed s b) = (omega arith, omega arith)
+numbered (TooLarge s b) = (omega arith, omega arith)
+numbered (Disagree s b) = (omega arith, omega arith)
+numbered (Total s) = (omega arith, omega arith)
+numbered Work = (omega arith, omega arith)
+numbered (Output o) = (omega arith, omega arith)
+numbered Counts = (omega arith, omega arith)
+numbered (Rule k) = (omega arith, omega arith)
+numbered (Join k) = (omega arith, omega arith)
+numbered (Line k) = (omega arith, omega arith)
+numbered Size = (omega arith, omega arith)

@@ -2,6 +2,7 @@
 use mathlib.Core.Path.{_≡_}
 use mathlib.Core.List.{List}
 use Prim.Native.Nat.{ℕ}
+use lib.IntN.{ℤ}
 use Rattle.answers.specs.declared.Checked.{Checked}
 use Rattle.answers.specs.declared.Fit.{Fit}
 use Rattle.answers.specs.declared.Narrowed.{Narrowed}
@@ -15,6 +16,7 @@ use Rattle.extremes.specs.declared.Direction.the-variants.{Least, Greatest}
 use Rattle.extremes.specs.Extreme.{ExtremePromise}
 use Rattle.file_runs.specs.Promise.{FilePromise}
 use Rattle.fitting.specs.Fit.{FitPromise}
+use Rattle.host_calls.specs.Host.{HostPromise}
 use Rattle.sweep_calls.specs.Sweep.{SweepPromise}
 use Rattle.joins.specs.Join.{JoinPromise}
 use Rattle.pairs.specs.Narrow.{NarrowPromise}
@@ -71,3 +73,7 @@ RunBook counts blocks rules work blocks′ work′ r = RunPromise counts blocks 
 -- running a book file: the report of its book's run at the start of the output, or a refusal, which leaves the output as on entry
 abbrev pub RunFile : List ℕ → List ℕ → List ℕ → Written → Type 0
 RunFile file report report′ r = FilePromise file report report′ r
+
+-- the call of a C host (document 02, order 4): lent the book's bytes, the report buffer and work; with ′ report and work as handed back; one signed number
+abbrev pub RunHost : List ℕ → List ℕ → List ℕ → List ℕ → List ℕ → ℤ → Type 0
+RunHost book report work report′ work′ z = HostPromise book report work report′ work′ z

@@ -1,5 +1,5 @@
-// The calls of document 01, and of document 02. None has a duty for its caller: whatever is lent, the call ends, answers or refuses by number, text and place,
-// and a refusal leaves all lent memory as on entry.
+// The calls of document 01, and of document 02. None has a duty for its caller: whatever is lent, the call ends, answers or refuses by number, text and place
+// (the one for C by its number alone), and a refusal leaves all lent memory as on entry.
 use answers::Checked;
 use answers::Fit;
 use answers::Narrowed;
@@ -7,7 +7,7 @@ use answers::Ran;
 use answers::Shown;
 use answers::Swept;
 use answers::Written;
-ghost use Rattle.dashed.specs.Promises.{CheckShape, FitsShape, Earlier, LeastText, GreatestText, Sweep, NarrowEqual, NarrowAtMost, NarrowBefore, NarrowJoin, CommonText, RunBook, RunFile};
+ghost use Rattle.dashed.specs.Promises.{CheckShape, FitsShape, Earlier, LeastText, GreatestText, Sweep, NarrowEqual, NarrowAtMost, NarrowBefore, NarrowJoin, CommonText, RunBook, RunFile, RunHost};
 
 // Checks a shape, lent as 64-bit numbers, four to a block.
 pub fn check_shape(shape: &[u64]) -> Checked
@@ -135,4 +135,13 @@ pub fn run_file(file: &[u8], report: &mut [u8]) -> Written
     ensures { λ r. ⌜ RunFile (now (file .entry)) (now (report .entry)) (now (report .exit)) r ⌝ }
 {
     file_runs::run_file(file, report)
+}
+
+// The call of a host that is written in C, exported under this name (include/wedgeotter.h): runs a book file as `run_file` does, with a lent work buffer of at least
+// 63,001 bytes. It hands back the report's length, or the refusal's number made negative, without text and place: 9, 8, then the book's with 4, and 5 last.
+#[no_mangle]
+pub extern "C" fn wedgeotter_run_file(book: &[u8], report: &mut [u8], work: &mut [u8]) -> i64
+    ensures { λ z. ⌜ RunHost (now (book .entry)) (now (report .entry)) (now (work .entry)) (now (report .exit)) (now (work .exit)) z ⌝ }
+{
+    host_calls::run(book, report, work)
 }

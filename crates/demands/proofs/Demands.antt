@@ -19,9 +19,11 @@ use Rattle.sweep_calls.proofs.Sweeping.{sweep-determined}
 use Rattle.book_runs.proofs.Determined.{run-determined}
 use Rattle.book_steps.proofs.Standing.{standing-first}
 use Rattle.file_runs.proofs.Determined.{run-file-determined}
+use Rattle.host_calls.proofs.Determined.{host-determined}
+use Rattle.host_calls.proofs.Numbers.{host-refused}
 use Rattle.dashed.proofs.Determined.{check-shape-determined, fits-determined, earlier-determined, extreme-determined}
 use Rattle.demands.specs.Demands.{Demand1, Demand2, Demand3, Exact, KeepsExactly, ExactJoin, KeepsTriples}
-use Rattle.demands.proofs.Refusals.{check-shape-refuses, fits-refuses, text-refuses, sweep-refuses, common-text-refuses, narrowing-refuses, join-refuses, run-book-refuses, run-file-refuses}
+use Rattle.demands.proofs.Refusals.{check-shape-refuses, fits-refuses, text-refuses, sweep-refuses, common-text-refuses, narrowing-refuses, join-refuses, run-book-refuses, run-file-refuses, run-host-refuses}
 use Rattle.demands.proofs.Exact.{none-texts, some-texts, keeps-exactly, narrowed-shapes}
 use Rattle.demands.proofs.Joined.{none-triples, some-triple, keeps-triples, joined-shapes}
 use Rattle.demands.proofs.Sequences.{all-right, alone-stable, stable-alone, calls-agree, permuted-agree, calls-widest, calls-none, calls-accepted, runner-stable, runner-none}
@@ -38,6 +40,7 @@ demand-1 = record {
   common-text = common-text-refuses;
   run-book = run-book-refuses;
   run-file = run-file-refuses;
+  run-host = run-host-refuses;
   least-untouched = λ xs out out′ q p. p .1;
   greatest-untouched = λ xs out out′ q p. p .1;
   sweep-untouched = λ xs ys out out′ q p. p .1;
@@ -45,6 +48,7 @@ demand-1 = record {
   common-text-untouched = λ xs ys work out work′ out′ q p. (p .1, p .2);
   book-untouched = λ counts blocks rules work blocks′ work′ q p. (p .1, p .2);
   file-untouched = λ file report report′ q p. p .1;
+  host-untouched = λ book report work report′ work′ q p. let r = host-refused book report work report′ work′ q p in (r .1 .0 .1, r .1 .1);
   equal = narrowing-refuses (λ t u. t ≡ u);
   at-most = narrowing-refuses AtMost;
   before = narrowing-refuses Before;
@@ -58,6 +62,7 @@ demand-1 = record {
   common-text-one = common-one;
   run-book-one = run-determined;
   run-file-one = run-file-determined;
+  run-host-one = host-determined;
 }
 
 -- ---- demand 2

@@ -8,3 +8,4 @@ pub mod Refusals
 pub mod Demands
 pub mod Requests
 pub mod Request3
+pub mod Request4

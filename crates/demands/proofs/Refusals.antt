@@ -30,9 +30,11 @@ use Rattle.sweep_calls.specs.Sweep.{SweepRefused}
 use Rattle.sweep_calls.proofs.Sweeping.{one-refusal, not-due}
 use Rattle.books.specs.Refused.{BookAccepted, BookRefused}
 use Rattle.books.proofs.Refused.{book-one, book-not}
-use Rattle.file_runs.specs.Promise.{RunRefused}
+use Rattle.file_runs.specs.Promise.{RunRefused, FileAnswer}
 use Rattle.file_runs.proofs.Determined.{run-refused-one, run-file-not}
-use Rattle.dashed.specs.Promises.{CheckShape, FitsShape, Sweep, NarrowJoin, CommonText, RunBook, RunFile}
+use Rattle.host_calls.specs.Host.{negated, handed}
+use Rattle.host_calls.proofs.Numbers.{host-refused}
+use Rattle.dashed.specs.Promises.{CheckShape, FitsShape, Sweep, NarrowJoin, CommonText, RunBook, RunFile, RunHost}
 use Rattle.demands.specs.Demands.{Refuses, TextRefused, FileAcceptable, NarrowingRefuses}
 
 pub check-shape-refuses : (xs : List ℕ) → Refuses Checked.Refused (CheckShape xs) (Accepted xs) (ShapeRefused 1 xs)
@@ -145,15 +147,26 @@ run-book-refuses counts blocks rules work blocks′ work′ = record { acceptabl
     malformed n (Ran.None m) p = absurd (n (p .0 .accepted))
     malformed n (Ran.Refused q) p = (q, refl, p .0)
 
+answer-malformed : (file : List ℕ) (work : ℕ) (report report′ : List ℕ) → (FileAcceptable file work (length report) → ⊥) → (r : Written) → FileAnswer file work report report′ r
+    → (q : Refusal) × (r ≡ Written.Refused q) × RunRefused file work (length report) (told q)
+answer-malformed file work report report′ n (Written.Text m) p =
+    absurd (n (record { book = p .book; writing = p .accepted; accepted = p .written .accepted; enough = p .written .room }))
+answer-malformed file work report report′ n (Written.Refused q) p = (q, refl, p .0)
+
 pub run-file-refuses : (file report report′ : List ℕ)
-    → Refuses Written.Refused (RunFile file report report′) (FileAcceptable file (length report)) (RunRefused file (length report))
+    → Refuses Written.Refused (RunFile file report report′) (FileAcceptable file 63001 (length report)) (RunRefused file 63001 (length report))
 run-file-refuses file report report′ = record {
   acceptable = λ a q p. run-file-not (a .writing) (a .accepted) (a .enough) (p .0);
-  malformed = malformed;
+  malformed = λ n r p. answer-malformed file 63001 report report′ n r p;
   one = λ t u p q. run-refused-one p q;
 }
-  where
-    malformed : (FileAcceptable file (length report) → ⊥) → (r : Written) → RunFile file report report′ r
-        → (q : Refusal) × (r ≡ Written.Refused q) × RunRefused file (length report) (told q)
-    malformed n (Written.Text m) p = absurd (n (record { book = p .book; writing = p .accepted; accepted = p .written .accepted; enough = p .written .room }))
-    malformed n (Written.Refused q) p = (q, refl, p .0)
+
+pub run-host-refuses : (book report work report′ work′ : List ℕ)
+    → Refuses negated (RunHost book report work report′ work′) (FileAcceptable book (length work) (length report)) (RunRefused book (length work) (length report))
+run-host-refuses book report work report′ work′ = record {
+  acceptable = λ a q p. let r = host-refused book report work report′ work′ q p in run-file-not (a .writing) (a .accepted) (a .enough) (r .1 .0 .0);
+  malformed = λ n z p.
+      let m = answer-malformed book (length work) report report′ n (p .answer) (p .runs .0) in
+      (m .0, p .number ∙ ap handed (m .1), m .2);
+  one = λ t u p q. run-refused-one p q;
+}

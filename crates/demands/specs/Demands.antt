@@ -4,6 +4,7 @@ use mathlib.Core.Path.{_≡_}
 use mathlib.Core.List.{List, [], _++_}
 use mathlib.Core.Logic.{_⊎_, _↔_}
 use Prim.Native.Nat.{ℕ, _*_, _≤_, _<_}
+use lib.IntN.{ℤ}
 use lib.ListN.{length, getD, take}
 use Rattle.answers.specs.Told.{Told, tell, told}
 use Rattle.answers.specs.declared.Refusal.{Refusal}
@@ -32,7 +33,8 @@ use Rattle.book_steps.specs.Step.{Standing}
 use Rattle.file_lines.specs.Book.{Book}
 use Rattle.files.specs.Departs.{FileAccepted}
 use Rattle.file_runs.specs.Promise.{RunRefused}
-use Rattle.dashed.specs.Promises.{CheckShape, FitsShape, Earlier, LeastText, GreatestText, Sweep, NarrowEqual, NarrowAtMost, NarrowBefore, NarrowJoin, CommonText, RunBook, RunFile}
+use Rattle.host_calls.specs.Host.{negated}
+use Rattle.dashed.specs.Promises.{CheckShape, FitsShape, Earlier, LeastText, GreatestText, Sweep, NarrowEqual, NarrowAtMost, NarrowBefore, NarrowJoin, CommonText, RunBook, RunFile, RunHost}
 use Rattle.demands.specs.Calls.{LeftAlone, none, numbers, Ending, Calls, InOrder, WidestLeft, Choice}
 
 -- ---- demand 1
@@ -47,11 +49,11 @@ pub record Refuses {Answer : Type 0} (refused : Refusal → Answer) (Promise : A
 abbrev pub TextRefused : List ℕ → List ℕ → Told → Type 0
 TextRefused xs out t = ShapeRefused 1 xs t ⊎ (Accepted xs × (length out < 250) × (t ≡ tell 5 0 0))
 
--- The file is the writing of an accepted book, and its report has room.
-pub record FileAcceptable (file : List ℕ) (room : ℕ) : Type 0 where
+-- The file is the writing of a book that is accepted with a work buffer of `work` bytes, and its report has room.
+pub record FileAcceptable (file : List ℕ) (work room : ℕ) : Type 0 where
   pub book : Book
   pub writing : FileAccepted file book
-  pub accepted : BookAccepted (book .counts) (wordsOf (book .blocks)) (numbersOfAll (book .rules)) 63001
+  pub accepted : BookAccepted (book .counts) (wordsOf (book .blocks)) (numbersOfAll (book .rules)) work
   pub enough : 16384 ≤ room
 
 -- The promise of a narrowing call, over what is lent, what is handed back, and the answer.
@@ -80,8 +82,11 @@ pub record Demand1 : Type 1 where
       (PairAccepted xs ys × ShowRoom (length work) (length out)) (ShowRefused xs ys (length work) (length out))
   pub run-book : (counts blocks rules work blocks′ work′ : List ℕ) → Refuses Ran.Refused (RunBook counts blocks rules work blocks′ work′)
       (BookAccepted counts blocks rules (length work)) (BookRefused counts blocks rules (length work))
-  pub run-file : (file report report′ : List ℕ) → Refuses Written.Refused (RunFile file report report′) (FileAcceptable file (length report))
-      (RunRefused file (length report))
+  pub run-file : (file report report′ : List ℕ) → Refuses Written.Refused (RunFile file report report′) (FileAcceptable file 63001 (length report))
+      (RunRefused file 63001 (length report))
+  -- (the number alone is handed to a C host, made negative)
+  pub run-host : (book report work report′ work′ : List ℕ) → Refuses negated (RunHost book report work report′ work′) (FileAcceptable book (length work) (length report))
+      (RunRefused book (length work) (length report))
   -- "a refusal leaves all lent memory untouched"
   pub least-untouched : (xs out out′ : List ℕ) (q : Refusal) → LeastText xs out out′ (Written.Refused q) → out′ ≡ out
   pub greatest-untouched : (xs out out′ : List ℕ) (q : Refusal) → GreatestText xs out out′ (Written.Refused q) → out′ ≡ out
@@ -92,6 +97,7 @@ pub record Demand1 : Type 1 where
   pub book-untouched : (counts blocks rules work blocks′ work′ : List ℕ) (q : Refusal) → RunBook counts blocks rules work blocks′ work′ (Ran.Refused q)
       → (blocks′ ≡ blocks) × (work′ ≡ work)
   pub file-untouched : (file report report′ : List ℕ) (q : Refusal) → RunFile file report report′ (Written.Refused q) → report′ ≡ report
+  pub host-untouched : (book report work report′ work′ : List ℕ) (q : Refusal) → RunHost book report work report′ work′ (negated q) → (report′ ≡ report) × (work′ ≡ work)
   -- both, and the next, of the three narrowings
   pub equal : NarrowingRefuses NarrowEqual
   pub at-most : NarrowingRefuses NarrowAtMost
@@ -111,6 +117,8 @@ pub record Demand1 : Type 1 where
       → (r ≡ s) × (b ≡ b′) × (w ≡ w′)
   pub run-file-one : (file report report′ report″ : List ℕ) (r s : Written) → RunFile file report report′ r → RunFile file report report″ s
       → (r ≡ s) × (report′ ≡ report″)
+  pub run-host-one : (book report work report′ report″ work′ work″ : List ℕ) (y z : ℤ) → RunHost book report work report′ work′ y
+      → RunHost book report work report″ work″ z → (y ≡ z) × (report′ ≡ report″) × (work′ ≡ work″)
 
 -- ---- demand 2
 

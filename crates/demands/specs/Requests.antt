@@ -1,19 +1,21 @@
 -- The requests of document 02, a field for each sentence, over the promises of the calls. What a request says of refusals stands with demand 1.
 use mathlib.Core.Path.{_≡_}
 use mathlib.Core.List.{List, [], _∷_, _++_}
-use mathlib.Core.Logic.{_↔_}
+use mathlib.Core.Logic.{_⊎_, _↔_}
 use Prim.Native.Nat.{ℕ, _+_, _≤_, _<_}
+use lib.IntN.{ℤ, pos, negℤ}
 use lib.ListN.{length, take, drop}
-use Rattle.answers.specs.Told.{tell}
+use Rattle.answers.specs.Told.{tell, told}
+use Rattle.answers.specs.declared.Refusal.{Refusal}
 use Rattle.answers.specs.declared.Narrowed.{Narrowed}
 use Rattle.answers.specs.declared.Shown.{Shown}
 use Rattle.answers.specs.declared.Written.{Written}
 use Rattle.shapes.specs.Shape.{Fits, total}
-use Rattle.shapes.specs.Lent.{shapeOf}
+use Rattle.shapes.specs.Lent.{shapeOf, wordsOf}
 use Rattle.texts.specs.Order.{AtMost}
 use Rattle.texts.specs.Kind.{relationOf, joinKind}
 use Rattle.rules.specs.declared.Rule.{Rule}
-use Rattle.rules.specs.Rule.{ruleAt, ruleCount}
+use Rattle.rules.specs.Rule.{ruleAt, ruleCount, numbersOfAll}
 use Rattle.pairs.specs.Pair.{PairAccepted, Room}
 use Rattle.pairs.specs.Narrow.{Cleared}
 use Rattle.joins.specs.Refused.{JoinAccepted, JoinRoom}
@@ -21,7 +23,12 @@ use Rattle.books.specs.Counts.{RightCounts, shapeIn}
 use Rattle.books.specs.Rules.{Names, RightRule, Keeps}
 use Rattle.books.specs.Refused.{SoundTexts, SoundRule, BookRefused, BookAccepted}
 use Rattle.common_calls.specs.Common.{ShowRoom}
-use Rattle.dashed.specs.Promises.{LeastText, NarrowEqual, NarrowJoin, CommonText}
+use Rattle.file_lines.specs.Book.{Book}
+use Rattle.files.specs.Departs.{FileAccepted}
+use Rattle.file_runs.specs.Ends.{FileEnds}
+use Rattle.file_runs.specs.Promise.{Report}
+use Rattle.host_calls.specs.Host.{negated, handed}
+use Rattle.dashed.specs.Promises.{LeastText, NarrowEqual, NarrowJoin, CommonText, RunFile, RunHost}
 
 -- ---- order 2
 
@@ -96,3 +103,33 @@ pub record Request3 : Type 0 where
   pub as-equality : {xs ys zs work ox oy oz work′ ox′ oy′ oz′ work₁ ox₁ ol work₁′ ox₁′ ol′ : List ℕ} → NarrowJoin xs ys zs work ox oy oz work′ ox′ oy′ oz′ Narrowed.Narrow
       → NarrowEqual xs (ys ++ zs) work₁ ox₁ ol work₁′ ox₁′ ol′ Narrowed.Narrow
       → (take (length xs) ox′ ≡ take (length xs) ox₁′) × (take (length ys) oy′ ++ take (length zs) oz′ ≡ take (length (ys ++ zs)) ol′)
+
+-- ---- order 4
+
+-- Lent to the call: book, report and work. To `run_file` the same book and report are lent; `narrow` has a buffer of its own, out.
+pub record Request4 : Type 0 where
+  -- "gets the number of bytes written": they stand at the start of the report buffer, one at least; "leaves the rest of its buffer as found"
+  pub written : {book report work report′ work′ : List ℕ} (n : ℕ) → RunHost book report work report′ work′ (pos n)
+      → (0 < n) × (n ≤ 16384) × (length (take n report′) ≡ n) × (drop n report′ ≡ drop n report)
+  -- "The bytes are those the program `narrow` prints for the same accepted book": it prints the first m bytes of a report of how the file ends (`narrow::report_of`)
+  pub as-printed : {book report work report′ work′ out out′ : List ℕ} (n m : ℕ) → RunHost book report work report′ work′ (pos n) → Report (FileEnds book) out out′ m
+      → (n ≡ m) × (take n report′ ≡ take m out′)
+  -- work is zeroed as elsewhere
+  pub zeroed : {book report work report′ work′ : List ℕ} (n : ℕ) → RunHost book report work report′ work′ (pos n) → Cleared work work′
+  -- "or the refusal's number made negative with the report buffer untouched": there is no third, and no number is both
+  pub count-or-refusal : {book report work report′ work′ : List ℕ} (z : ℤ) → RunHost book report work report′ work′ z
+      → ((n : ℕ) × (z ≡ pos n)) ⊎ ((q : Refusal) × (z ≡ negated q))
+  pub not-both : (n : ℕ) (q : Refusal) → pos n ≡ negated q → ⊥
+  -- with enough work it is `run_file`: the number of its answer, and its report
+  pub as-run-file : {book report work report′ work′ report″ : List ℕ} (z : ℤ) (r : Written) → 63001 ≤ length work → RunHost book report work report′ work′ z
+      → RunFile book report report″ r → (z ≡ handed r) × (report′ ≡ report″)
+  -- with less it is 4 in the place of a report, and of 5; every other refusal is the same
+  pub less-for-text : {book report work report′ work′ report″ : List ℕ} (z : ℤ) (n : ℕ) → length work < 63001 → RunHost book report work report′ work′ z
+      → RunFile book report report″ (Written.Text n) → z ≡ negℤ (pos 4)
+  pub less-for-five : {book report work report′ work′ report″ : List ℕ} (z : ℤ) (q : Refusal) → length work < 63001 → RunHost book report work report′ work′ z
+      → RunFile book report report″ (Written.Refused q) → told q .number ≡ 5 → z ≡ negℤ (pos 4)
+  pub other-refusals : {book report work report′ work′ report″ : List ℕ} (z : ℤ) (q : Refusal) → RunHost book report work report′ work′ z
+      → RunFile book report report″ (Written.Refused q) → (told q .number ≡ 5 → ⊥) → z ≡ negated q
+  -- "Refusals: 5 last": it says that the book is accepted, with the work buffer lent, and only the report buffer is too short
+  pub five-last : {book report work report′ work′ : List ℕ} → RunHost book report work report′ work′ (negℤ (pos 5))
+      → (b : Book) × FileAccepted book b × BookAccepted (b .counts) (wordsOf (b .blocks)) (numbersOfAll (b .rules)) (length work) × (length report < 16384)

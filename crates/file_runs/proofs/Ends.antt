@@ -16,6 +16,7 @@ use Rattle.answers.specs.declared.Ran.the-variants.{Stable as is-stable, None a
 use Rattle.answers.specs.declared.Written.{Written}
 use Rattle.answers.specs.declared.Written.the-variants.{Text, Refused}
 use Rattle.hulls.specs.Hull.{Outcome, none, shapes}
+use Rattle.pairs.specs.Narrow.{Cleared}
 use Rattle.hulls.proofs.Hull.{hull-sound}
 use Rattle.books.specs.Refused.{BookRefused, BookAccepted}
 use Rattle.book_runs.specs.Rounds.{Rounds, BookRun, RunPromise}
@@ -37,7 +38,7 @@ use Rattle.rules.specs.Rule.{rulesOf, numbersOfAll}
 use Rattle.file_runs.specs.Ends.{BookEnds, FileEnds}
 use Rattle.file_runs.specs.Ends.BookEnds.{rests as ends-rest, fails}
 use Rattle.file_runs.specs.Ends.FileEnds.{no-book, wrong-book, of-book}
-use Rattle.file_runs.specs.Promise.{BookPromise, FilePromise}
+use Rattle.file_runs.specs.Promise.{BookAnswer, FileAnswer}
 use Rattle.file_runs.specs.Promise.RunRefused.{of-book as refused-book}
 
 -- ---- the numbers of rules, and the rules of some numbers
@@ -93,31 +94,28 @@ file-ends-one {file = file} (of-book a g p) (no-book q) = absurd (not-both file 
 file-ends-one (of-book a g p) (wrong-book {t = t} d q) = absurd (book-not (same-book (λ c w r. BookRefused c w r 63001 t) a d q) g)
 file-ends-one {w = v} (of-book a g p) (of-book d h q) = book-ends-one p (same-book (λ c w r. BookEnds c w r v) a d q)
 
--- ---- what the run of a book's numbers comes to that has all the work space it wants; blocks′ are the blocks that it leaves
+-- ---- what the run of a book's numbers comes to; blocks′ and work′ are what it leaves in the blocks and in the work buffer
 
 -- the final shapes can be written, if their numbers fit
 abbrev Writable : List ℕ → Type 0
 Writable blocks′ = All (λ (x : ℕ). x < 2 ^ 64) blocks′ → All RightBlock (shapeOf blocks′)
 
-abbrev pub ComesTo : List ℕ → List ℕ → List ℕ → List ℕ → Ran → Type 0
-ComesTo counts blocks rules blocks′ (is-refused r) = BookRefused counts blocks rules 63001 (told r)
-ComesTo counts blocks rules blocks′ (is-none m) = BookAccepted counts blocks rules 63001 × BookEnds counts blocks rules (in-none m)
-ComesTo counts blocks rules blocks′ (is-stable m) =
-    BookAccepted counts blocks rules 63001 × BookEnds counts blocks rules (stable counts (shapeOf blocks′) m) × Writable blocks′
+abbrev pub ComesTo : List ℕ → List ℕ → List ℕ → List ℕ → List ℕ → List ℕ → Ran → Type 0
+ComesTo counts blocks rules work blocks′ work′ (is-refused r) = BookRefused counts blocks rules (length work) (told r) × (work′ ≡ work)
+ComesTo counts blocks rules work blocks′ work′ (is-none m) =
+    BookAccepted counts blocks rules (length work) × BookEnds counts blocks rules (in-none m) × Cleared work work′
+ComesTo counts blocks rules work blocks′ work′ (is-stable m) =
+    BookAccepted counts blocks rules (length work) × BookEnds counts blocks rules (stable counts (shapeOf blocks′) m) × Cleared work work′ × Writable blocks′
 
-module _ (counts blocks rules work blocks′ work′ : List ℕ) (all : length work ≡ 63001) where
-  enough : BookAccepted counts blocks rules (length work) → BookAccepted counts blocks rules 63001
-  enough a = subst (BookAccepted counts blocks rules) all a
-
-  pub comes-to : (r : Ran) → RunPromise counts blocks rules work blocks′ work′ r → ComesTo counts blocks rules blocks′ r
-  comes-to (is-refused r) p = subst (λ (k : ℕ). BookRefused counts blocks rules k (told r)) all (p .0)
-  comes-to (is-none m) p = let a = enough (p .0 .accepted) in (a, fails (p .0 .run))
-  comes-to (is-stable m) p =
-      let a = enough (p .0 .accepted) in
-      let same : p .0 .final ≡ shapeOf blocks′ = sym (ap shapeOf (p .0 .left) ∙ shape-words (p .0 .final)) in
-      let sound = final-sound (p .0 .run) (blocks-sound (standing-first (p .0 .accepted))) in
-      let run = subst (λ (S : List Block). BookRun counts blocks rules (shapes S) m) same (p .0 .run) in
-      (a, ends-rest run, λ small. right-of-sound blocks′ small (subst (All Sound) same sound))
+pub comes-to : (counts blocks rules work blocks′ work′ : List ℕ) (r : Ran) → RunPromise counts blocks rules work blocks′ work′ r
+    → ComesTo counts blocks rules work blocks′ work′ r
+comes-to counts blocks rules work blocks′ work′ (is-refused r) p = (p .0, p .2)
+comes-to counts blocks rules work blocks′ work′ (is-none m) p = (p .0 .accepted, fails (p .0 .run), p .1)
+comes-to counts blocks rules work blocks′ work′ (is-stable m) p =
+    let same : p .0 .final ≡ shapeOf blocks′ = sym (ap shapeOf (p .0 .left) ∙ shape-words (p .0 .final)) in
+    let sound = final-sound (p .0 .run) (blocks-sound (standing-first (p .0 .accepted))) in
+    let run = subst (λ (S : List Block). BookRun counts blocks rules (shapes S) m) same (p .0 .run) in
+    (p .0 .accepted, ends-rest run, p .1, λ small. right-of-sound blocks′ small (subst (All Sound) same sound))
 
 -- an accepted book has at most 256 blocks
 pub few-numbers : (counts blocks rules : List ℕ) (work : ℕ) → BookAccepted counts blocks rules work → length blocks / 4 ≤ 256
@@ -125,15 +123,15 @@ few-numbers counts blocks rules work a = let e = a .counted .whole-blocks in let
 
 -- ---- what the run of the numbers that a file was read into promises of the file
 
-of-accepted : (file out out′ : List ℕ) (b : Book) (r : Written) → FileAccepted file b
-    → BookPromise (b .counts) (wordsOf (b .blocks)) (numbersOfAll (b .rules)) out out′ r → FilePromise file out out′ r
-of-accepted file out out′ b (Text n) a p = record { book = b; accepted = a; written = p }
-of-accepted file out out′ b (Refused s) a p = (refused-book a (p .0), p .1)
+of-accepted : (file : List ℕ) (work : ℕ) (out out′ : List ℕ) (b : Book) (r : Written) → FileAccepted file b
+    → BookAnswer (b .counts) (wordsOf (b .blocks)) (numbersOfAll (b .rules)) work out out′ r → FileAnswer file work out out′ r
+of-accepted file work out out′ b (Text n) a p = record { book = b; accepted = a; written = p }
+of-accepted file work out out′ b (Refused s) a p = (refused-book a (p .0), p .1)
 
-pub file-of : (file cs bs rs cs′ bs′ rs′ out out′ : List ℕ) (z : Sizes) (r : Written) → BookRead file cs bs rs cs′ bs′ rs′ z
+pub file-of : (file cs bs rs cs′ bs′ rs′ : List ℕ) (work : ℕ) (out out′ : List ℕ) (z : Sizes) (r : Written) → BookRead file cs bs rs cs′ bs′ rs′ z
     → All (λ (x : ℕ). x < 2 ^ 64) (take (z .blocks * 4) bs′)
-    → BookPromise (take (z .texts) cs′) (take (z .blocks * 4) bs′) (take (z .rules * 4) rs′) out out′ r → FilePromise file out out′ r
-file-of file cs bs rs cs′ bs′ rs′ out out′ z r read small p =
+    → BookAnswer (take (z .texts) cs′) (take (z .blocks * 4) bs′) (take (z .rules * 4) rs′) work out out′ r → FileAnswer file work out out′ r
+file-of file cs bs rs cs′ bs′ rs′ work out out′ z r read small p =
     let room = ready file cs bs rs cs′ bs′ rs′ z read in
     let nb = length-take-le (z .blocks * 4) bs′ (room .blocks) in
     let nr = length-take-le (z .rules * 4) rs′ (room .rules) in
@@ -141,5 +139,5 @@ file-of file cs bs rs cs′ bs′ rs′ out out′ z r read small p =
     let t = take (z .rules * 4) rs′ in
     let words : wordsOf (shapeOf b) ≡ b = words-shape b (omega arith) small in
     let numbers : numbersOfAll (rulesOf t) ≡ t = numbers-rules t (omega arith) in
-    of-accepted file out out′ _ r (read .accepted)
-    (subst₂ (λ (x y : List ℕ). BookPromise (take (z .texts) cs′) x y out out′ r) (sym words) (sym numbers) p)
+    of-accepted file work out out′ _ r (read .accepted)
+    (subst₂ (λ (x y : List ℕ). BookAnswer (take (z .texts) cs′) x y work out out′ r) (sym words) (sym numbers) p)

@@ -1,4 +1,4 @@
--- What running a book file to its report promises.
+-- What running a book file to its report promises, with a work buffer that is lent or with one of the call's own.
 use mathlib.Core.Path.{_≡_}
 use mathlib.Core.List.{List}
 use Prim.Native.Nat.{ℕ, _≤_, _<_}
@@ -7,6 +7,7 @@ use Rattle.answers.specs.Told.{Told, tell, told}
 use Rattle.answers.specs.declared.Written.{Written}
 use Rattle.answers.specs.declared.Written.the-variants.{Text, Refused}
 use Rattle.shapes.specs.Lent.{wordsOf}
+use Rattle.pairs.specs.Narrow.{Cleared}
 use Rattle.books.specs.Refused.{BookRefused, BookAccepted}
 use Rattle.file_lines.specs.Book.{Book}
 use Rattle.files.specs.Departs.{FileRefused, FileAccepted}
@@ -20,34 +21,48 @@ pub record Report (Due : Verdict → Type 0) (out out′ : List ℕ) (n : ℕ) :
   pub due : Due verdict
   pub reported : Reported verdict out out′ n
 
--- The refusals of running a book to its report: the book's, with a work space of 63,001 bytes of its own, so that 4 never comes; then 5, for
--- an output under 16,384 bytes.
-pub data ReportRefused (counts blocks rules : List ℕ) (room : ℕ) (t : Told) : Type 0 where
-  wrong : BookRefused counts blocks rules 63001 t → ReportRefused counts blocks rules room t
-  short : BookAccepted counts blocks rules 63001 → room < 16384 → t ≡ tell 5 0 0 → ReportRefused counts blocks rules room t
+-- The refusals of running a book to its report, with a work buffer of `work` bytes: the book's, 4 among them; then 5, for an output under 16,384 bytes.
+pub data ReportRefused (counts blocks rules : List ℕ) (work room : ℕ) (t : Told) : Type 0 where
+  wrong : BookRefused counts blocks rules work t → ReportRefused counts blocks rules work room t
+  short : BookAccepted counts blocks rules work → room < 16384 → t ≡ tell 5 0 0 → ReportRefused counts blocks rules work room t
 
 -- Otherwise the book is run, and the report of how its run ends is written.
-pub record ReportWritten (counts blocks rules out out′ : List ℕ) (n : ℕ) : Type 0 where
-  pub accepted : BookAccepted counts blocks rules 63001
+pub record ReportWritten (counts blocks rules : List ℕ) (work : ℕ) (out out′ : List ℕ) (n : ℕ) : Type 0 where
+  pub accepted : BookAccepted counts blocks rules work
   pub room : 16384 ≤ length out
   pub report : Report (BookEnds counts blocks rules) out out′ n
 
-abbrev pub BookPromise : List ℕ → List ℕ → List ℕ → List ℕ → List ℕ → Written → Type 0
-BookPromise counts blocks rules out out′ (Text n) = ReportWritten counts blocks rules out out′ n
-BookPromise counts blocks rules out out′ (Refused r) = ReportRefused counts blocks rules (length out) (told r) × (out′ ≡ out)
+-- What is answered, and what is left in the output: a refusal carries number, text and place, and leaves the output as on entry.
+abbrev pub BookAnswer : List ℕ → List ℕ → List ℕ → ℕ → List ℕ → List ℕ → Written → Type 0
+BookAnswer counts blocks rules work out out′ (Text n) = ReportWritten counts blocks rules work out out′ n
+BookAnswer counts blocks rules work out out′ (Refused r) = ReportRefused counts blocks rules work (length out) (told r) × (out′ ≡ out)
 
 -- "A file: 9, 8, then the book's."
-pub data RunRefused (file : List ℕ) (room : ℕ) (t : Told) : Type 0 where
-  no-book : FileRefused file t → RunRefused file room t
-  of-book : {b : Book} → FileAccepted file b → ReportRefused (b .counts) (wordsOf (b .blocks)) (numbersOfAll (b .rules)) room t → RunRefused file room t
+pub data RunRefused (file : List ℕ) (work room : ℕ) (t : Told) : Type 0 where
+  no-book : FileRefused file t → RunRefused file work room t
+  of-book : {b : Book} → FileAccepted file b → ReportRefused (b .counts) (wordsOf (b .blocks)) (numbersOfAll (b .rules)) work room t
+      → RunRefused file work room t
 
 -- Otherwise the file is the writing of a book, and the report is that of this book's run.
-pub record RunWritten (file out out′ : List ℕ) (n : ℕ) : Type 0 where
+pub record RunWritten (file : List ℕ) (work : ℕ) (out out′ : List ℕ) (n : ℕ) : Type 0 where
   pub book : Book
   pub accepted : FileAccepted file book
-  pub written : ReportWritten (book .counts) (wordsOf (book .blocks)) (numbersOfAll (book .rules)) out out′ n
+  pub written : ReportWritten (book .counts) (wordsOf (book .blocks)) (numbersOfAll (book .rules)) work out out′ n
 
--- A refusal carries number, text and place, and leaves the output as on entry.
+-- The same of a file.
+abbrev pub FileAnswer : List ℕ → ℕ → List ℕ → List ℕ → Written → Type 0
+FileAnswer file work out out′ (Text n) = RunWritten file work out out′ n
+FileAnswer file work out out′ (Refused r) = RunRefused file work (length out) (told r) × (out′ ≡ out)
+
+-- A lent work buffer: cleared by an accepted call, untouched by a refusal.
+abbrev pub WorkLeft : List ℕ → List ℕ → Written → Type 0
+WorkLeft work work′ (Text n) = Cleared work work′
+WorkLeft work work′ (Refused r) = work′ ≡ work
+
+-- With a lent work buffer (document 02, order 4), so that 4 comes where it is under 63,001 bytes.
+abbrev pub LentPromise : List ℕ → List ℕ → List ℕ → List ℕ → List ℕ → Written → Type 0
+LentPromise file out work out′ work′ r = FileAnswer file (length work) out out′ r × WorkLeft work work′ r
+
+-- With a work buffer of its own, of 63,001 bytes, so that 4 never comes.
 abbrev pub FilePromise : List ℕ → List ℕ → List ℕ → Written → Type 0
-FilePromise file out out′ (Text n) = RunWritten file out out′ n
-FilePromise file out out′ (Refused r) = RunRefused file (length out) (told r) × (out′ ≡ out)
+FilePromise file out out′ r = FileAnswer file 63001 out out′ r

@@ -1,0 +1,134 @@
+-- A run with a lent work buffer beside the run with one of its own: with 63,001 bytes or more they are the same; with fewer, 4 comes in the place of a report and
+-- of 5. And 5 comes only where nothing else is due. Assumes nothing.
+use mathlib.Core.Path.{_≡_, refl, sym, ap, _∙_}
+use mathlib.Core.List.{List}
+use Prim.Native.Nat.{ℕ, _≤_, _<_}
+use native.Mathlib.Omega.{arith}
+use lib.ListN.{length, take, drop}
+use lib.Seq.{take-at, drop-at}
+use Rattle.answers.specs.Told.{Told, tell, told}
+use Rattle.answers.specs.declared.Refusal.{Refusal}
+use Rattle.answers.specs.declared.Refusal.the-variants.{Work}
+use Rattle.answers.specs.declared.Written.{Written}
+use Rattle.answers.specs.declared.Written.the-variants.{Text, Refused}
+use Rattle.shapes.specs.Wrong.{BlockRefused}
+use Rattle.shapes.specs.Wrong.BlockRefused.{crossed, too-large, disagree}
+use Rattle.shapes.specs.Lent.{wordsOf, BlocksRefused}
+use Rattle.shapes.specs.Lent.BlocksRefused.{wrong-block, too-long}
+use Rattle.books.specs.Refused.{RuleRefused, BookRefused, BookAccepted}
+use Rattle.books.specs.Refused.RuleRefused.{wrong as wrong-rule-7, too-long as too-long-12}
+use Rattle.books.specs.Refused.BookRefused.{wrong-counts, wrong-text, wrong-rule, short-work}
+use Rattle.file_lines.specs.Book.{Book, headLine, joined}
+use Rattle.files.specs.Departs.{FileRefused, FileAccepted}
+use Rattle.files.specs.Departs.FileRefused.{large, departs}
+use Rattle.file_reports.specs.Report.{Verdict, refusedLine, reportOf, Reported}
+use Rattle.file_reports.specs.Report.Verdict.{stable, none, refused}
+use Rattle.rules.specs.Rule.{numbersOfAll}
+use Rattle.file_runs.specs.Ends.{FileEnds}
+use Rattle.file_runs.specs.Promise.{Report, ReportRefused, RunRefused, FileAnswer, LentPromise, FilePromise}
+use Rattle.file_runs.specs.Promise.ReportRefused.{wrong, short}
+use Rattle.file_runs.specs.Promise.RunRefused.{no-book, of-book}
+use Rattle.file_runs.proofs.Work.{own-work, lacks-work, any-work}
+use Rattle.file_runs.proofs.Ends.{file-ends-one}
+use Rattle.file_runs.proofs.Determined.{answer-one}
+
+-- ---- enough work
+
+refused-own : {file : List ℕ} {work room : ℕ} {t : Told} → 63001 ≤ work → RunRefused file work room t → RunRefused file 63001 room t
+refused-own h (no-book p) = no-book p
+refused-own h (of-book a (wrong p)) = of-book a (wrong (any-work h p))
+refused-own h (of-book a (short d g e)) = of-book a (short (own-work d) g e)
+
+answer-own : (file : List ℕ) (work : ℕ) (out out′ : List ℕ) (r : Written) → 63001 ≤ work → FileAnswer file work out out′ r → FileAnswer file 63001 out out′ r
+answer-own file work out out′ (Text n) h p =
+    let w = p .written in
+    record { book = p .book; accepted = p .accepted; written = record { accepted = own-work (w .accepted); room = w .room; report = w .report } }
+answer-own file work out out′ (Refused r) h p = (refused-own h (p .0), p .1)
+
+pub lent-as-own : (file out work b c w : List ℕ) (x y : Written) → 63001 ≤ length work → LentPromise file out work b w x → FilePromise file out c y
+    → (x ≡ y) × (b ≡ c)
+lent-as-own file out work b c w x y h p q = answer-one file 63001 out b c x y (answer-own file (length work) out b x h (p .0)) q
+
+-- ---- 5 comes last
+
+number-of : {t : Told} {n x p : ℕ} → t ≡ tell n x p → t .number ≡ n
+number-of e = ap (λ (u : Told). u .number) e
+
+block-five : {n i : ℕ} {b : _} {t : Told} → BlockRefused n i b t → t .number ≡ 5 → ⊥
+block-five (crossed c e) f = let h = number-of e in omega arith
+block-five (too-large n c e) f = let h = number-of e in omega arith
+block-five (disagree n m c e) f = let h = number-of e in omega arith
+
+blocks-five : {n : ℕ} {s : _} {t : Told} → BlocksRefused n s t → t .number ≡ 5 → ⊥
+blocks-five (wrong-block i p) f = block-five (p .refused) f
+blocks-five (too-long a l e) f = let h = number-of e in omega arith
+
+rule-five : {counts : List ℕ} {S : _} {i : ℕ} {r : _} {t : Told} → RuleRefused counts S i r t → t .number ≡ 5 → ⊥
+rule-five (wrong-rule-7 n e) f = let h = number-of e in omega arith
+rule-five (too-long-12 p n e) f = let h = number-of e in omega arith
+
+book-five : {counts blocks rules : List ℕ} {work : ℕ} {t : Told} → BookRefused counts blocks rules work t → t .number ≡ 5 → ⊥
+book-five (wrong-counts a e) f = let h = number-of e in omega arith
+book-five (wrong-text c k p) f = blocks-five (p .refused) f
+book-five (wrong-rule c s i p) f = rule-five (p .refused) f
+book-five (short-work c s r l e) f = let h = number-of e in omega arith
+
+file-five : {file : List ℕ} {t : Told} → FileRefused file t → t .number ≡ 5 → ⊥
+file-five (large l e) f = let h = number-of e in omega arith
+file-five (departs k s d e) f = let h = number-of e in omega arith
+
+-- the file is the writing of an accepted book, and only the report has no room
+pub five-last : {file : List ℕ} {work room : ℕ} {t : Told} → RunRefused file work room t → t .number ≡ 5
+    → (b : Book) × FileAccepted file b × BookAccepted (b .counts) (wordsOf (b .blocks)) (numbersOfAll (b .rules)) work × (room < 16384)
+five-last (no-book p) f = absurd (file-five p f)
+five-last (of-book a (wrong p)) f = absurd (book-five p f)
+five-last (of-book {b = b} a (short d g e)) f = (b, a, d, g)
+
+-- ---- too little work
+
+-- 4 is what the lent run then answers, of a book that is accepted with enough
+answers-4 : (file out work b w : List ℕ) (x : Written) (k : Book) → length work < 63001 → LentPromise file out work b w x → FileAccepted file k
+    → BookAccepted (k .counts) (wordsOf (k .blocks)) (numbersOfAll (k .rules)) 63001 → x ≡ Refused Work
+answers-4 file out work b w x k h p a g =
+    answer-one file (length work) out b out x (Refused Work) (p .0) (of-book a (wrong (lacks-work h g)), refl) .0
+
+pub less-for-text : (file out work b c w : List ℕ) (x : Written) (n : ℕ) → length work < 63001 → LentPromise file out work b w x
+    → FilePromise file out c (Text n) → x ≡ Refused Work
+less-for-text file out work b c w x n h p q = answers-4 file out work b w x (q .book) h p (q .accepted) (q .written .accepted)
+
+pub less-for-five : (file out work b c w : List ℕ) (x : Written) (q : Refusal) → length work < 63001 → LentPromise file out work b w x
+    → FilePromise file out c (Refused q) → told q .number ≡ 5 → x ≡ Refused Work
+less-for-five file out work b c w x q h p r f =
+    let s = five-last (r .0) f in
+    answers-4 file out work b w x (s .0) h p (s .1) (s .2)
+
+-- any other refusal is the same
+refused-same : {file : List ℕ} {work room : ℕ} {t : Told} → RunRefused file 63001 room t → (t .number ≡ 5 → ⊥) → RunRefused file work room t
+refused-same (no-book p) n = no-book p
+refused-same (of-book a (wrong p)) n = of-book a (wrong (any-work (omega arith) p))
+refused-same (of-book a (short d g e)) n = absurd (n (number-of e))
+
+pub other-refusals : (file out work b c w : List ℕ) (x : Written) (q : Refusal) → LentPromise file out work b w x
+    → FilePromise file out c (Refused q) → (told q .number ≡ 5 → ⊥) → x ≡ Refused q
+other-refusals file out work b c w x q p r n = answer-one file (length work) out b out x (Refused q) (p .0) (refused-same (r .0) n, refl) .0
+
+-- ---- the bytes of a report, whatever else is in the buffer
+
+-- the report stands in front, and the rest of the buffer is as it was
+pub reported-front : {v : Verdict} {out out′ : List ℕ} {n : ℕ} → Reported v out out′ n → take n out′ ≡ reportOf v
+reported-front {v = v} {out = out} {n = n} p = ap (take n) (p .bytes) ∙ take-at (reportOf v) (drop n out) n (sym (p .count))
+
+pub reported-rest : {v : Verdict} {out out′ : List ℕ} {n : ℕ} → Reported v out out′ n → drop n out′ ≡ drop n out
+reported-rest {v = v} {out = out} {n = n} p = ap (drop n) (p .bytes) ∙ drop-at (reportOf v) (drop n out) n (sym (p .count))
+
+pub report-bytes : {file out b out₁ c : List ℕ} {n m : ℕ} → Report (FileEnds file) out b n → Report (FileEnds file) out₁ c m → (n ≡ m) × (take n b ≡ take m c)
+report-bytes p q =
+    let e = file-ends-one (p .due) (q .due) in
+    (p .reported .count ∙ ap (λ v. length (reportOf v)) e ∙ sym (q .reported .count), reported-front (p .reported) ∙ ap reportOf e ∙ sym (reported-front (q .reported)))
+
+-- a report has a byte at least
+pub some-bytes : (v : Verdict) → 0 < length (reportOf v)
+unfolding reportOf headLine joined refusedLine
+some-bytes (stable cs bs n) = omega arith
+some-bytes (none n) = omega arith
+some-bytes (refused t) = omega arith

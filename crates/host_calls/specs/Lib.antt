@@ -1,0 +1,2 @@
+-- What the call from a host promises.
+pub mod Host

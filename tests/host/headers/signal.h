@@ -1,0 +1,2 @@
+#pragma once
+#define SIGSEGV 11
