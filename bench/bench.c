@@ -10,7 +10,7 @@
 uint64_t wedgeotter_least(const uint64_t *shape, size_t n, uint8_t *out, size_t k);
 uint64_t wedgeotter_sweep(const uint64_t *x, size_t n, const uint64_t *y, size_t m, uint64_t *out, size_t k);
 fitting wedgeotter_fits;
-narrowing wedgeotter_equal, wedgeotter_at_most, wedgeotter_before;
+narrowing wedgeotter_exact, wedgeotter_padded, wedgeotter_at_most, wedgeotter_before;
 joining wedgeotter_join;
 showing wedgeotter_common;
 running wedgeotter_book;
@@ -24,10 +24,13 @@ static showing *const common_of[SIDES] = {wedgeotter_common, plain_common, rows_
 static running *const book_of[SIDES] = {wedgeotter_book, plain_book, rows_book};
 static filing *const file_of[SIDES] = {wedgeotter_file, plain_file, rows_file};
 
-#define KINDS 3
-static const char *const kind_of[KINDS] = {"equal", "at most", "before"};
-static narrowing *const narrow_of[KINDS][SIDES] = {
-    {wedgeotter_equal, plain_equal, rows_equal},
+// The relations of two texts; equality to the letter, a rule's kind 4, comes first, since the others are measured by it.
+#define RELATIONS 4
+#define PADDED_EQUAL 1
+static const char *const relation_of[RELATIONS] = {"equal to the letter", "equal but for padding", "at most", "before"};
+static narrowing *const narrow_of[RELATIONS][SIDES] = {
+    {wedgeotter_exact, plain_exact, rows_exact},
+    {wedgeotter_padded, plain_padded, rows_padded},
     {wedgeotter_at_most, plain_at_most, rows_at_most},
     {wedgeotter_before, plain_before, rows_before},
 };
@@ -56,7 +59,7 @@ static void same(int yes, const char *what) {
 static void show(const char *what, const char *size, int sides, const double *best) {
     char line[80];
     snprintf(line, sizeof line, "%s, %s", what, size);
-    printf("%-37s %9.0f ns", line, best[0]);
+    printf("%-52s %9.0f ns", line, best[0]);
     for (int side = 1; side < sides; side++) printf(" %9.0f ns %6.2f", best[side], best[0] / best[side]);
 }
 
@@ -154,24 +157,48 @@ static size_t make_tight(uint64_t *s, const uint64_t *x, size_t n) {
     return 4 * blocks;
 }
 
-// What a random shape stands beside: the next one; a tight one; itself, with fixed counts; the next one, with large bases.
-enum pairing { NEXT_ONE, TIGHT, FIXED, LARGE };
+// What a random shape stands beside: the next one; a tight one; itself, with fixed counts; the next one, with large bases; where both are fields, one padded otherwise.
+enum pairing { NEXT_ONE, TIGHT, FIXED, LARGE, FIELDS };
 
 // Half of all codes, in the mean, in each base.
 static void enlarge(uint64_t *s, size_t n) {
     for (size_t j = 0; j < n; j += 4) s[j] = rnd(~0ull), s[j + 1] = rnd(~0ull);
 }
 
+// Makes a shape a field: the blank in half of the bases, and the last quarter of the blocks padding alone.
+static void make_field(uint64_t *s, size_t n) {
+    for (size_t j = 0; j < n; j += 4) {
+        s[j] = rnd(2) ? BLANK : 0;
+        if (j >= n - n / 4) s[j] = BLANK, s[j + 1] = 0;
+    }
+}
+
+// Makes of a field's copy the same field of another instrument: more letters, other least counts and narrower padding, so that the two have common texts. A bare one
+// lacks the padding, and the field then has all of its own, so that most often the two are equal but for padding alone.
+static size_t make_beside(int bare, uint64_t *field, uint64_t *s, size_t n) {
+    size_t padding = n - n / 4;
+    for (size_t j = 0; j < n; j += 4) {
+        if (j < padding) s[j + 1] |= (rnd(15) + 1) << 33;
+        else s[j + 3] = rnd(s[j + 3]) + 1;
+        s[j + 2] = rnd(s[j + 3] + 1) / 2;
+        if (bare && j >= padding) field[j + 2] = field[j + 3];
+    }
+    return bare ? padding : n;
+}
+
 static void make_pairs(enum pairing with, size_t blocks, uint64_t most) {
     for (int i = 0; i < SHAPES; i++) {
         length[i] = make(shape[i], blocks, most);
         if (with == LARGE) enlarge(shape[i], length[i]);
+        if (with == FIELDS) make_field(shape[i], length[i]);
         for (size_t j = 0; with == FIXED && j < length[i]; j += 4) shape[i][j + 2] = shape[i][j + 3];
     }
     for (int i = 0; i < SHAPES; i++) {
-        int beside = with == FIXED ? i : NEXT;
+        int beside = with == FIXED || with == FIELDS ? i : NEXT;
         memcpy(other[i], shape[beside], sizeof other[i]);
-        other_length[i] = with == TIGHT ? make_tight(other[i], shape[i], length[i]) : length[beside];
+        other_length[i] = length[beside];
+        if (with == TIGHT) other_length[i] = make_tight(other[i], shape[i], length[i]);
+        if (with == FIELDS) other_length[i] = make_beside(i % 4 == 0, shape[i], other[i], length[i]);
     }
 }
 
@@ -183,14 +210,14 @@ static size_t second_length[SHAPES], third_length[SHAPES];
 
 #define TRIPLE shape[i], length[i], second[i], second_length[i], third[i], third_length[i], work, sizeof work
 
-// After the ratios to plain C that to our equality on the pairs, and how many of the joins and of the pairs are not none. If the two are the other shape cut in two, a
-// join allows what equality does.
+// After the ratios to plain C that to our equality to the letter on the pairs, and how many of the joins and of the pairs are not none. If the two are the other shape
+// cut in two, a join allows what equality does.
 static void joins(const char *size, int cut) {
     uint64_t out[2][3][128], a[128], b[128];
     int some = 0, pairs = 0;
     for (int i = 0; i < SHAPES; i++) {
         memset(out[0], 0, sizeof out[0]), memset(a, 0, sizeof a), memset(b, 0, sizeof b);
-        uint64_t ours = wedgeotter_join(TRIPLE, out[0][0], 128, out[0][1], 128, out[0][2], 128), equal = wedgeotter_equal(PAIR, a, 128, b, 128);
+        uint64_t ours = wedgeotter_join(TRIPLE, out[0][0], 128, out[0][1], 128, out[0][2], 128), equal = wedgeotter_exact(PAIR, a, 128, b, 128);
         for (int side = 1; side < SIDES; side++) {
             memset(out[1], 0, sizeof out[1]);
             same(ours == join_of[side](TRIPLE, out[1][0], 128, out[1][1], 128, out[1][2], 128) && memcmp(out[0], out[1], sizeof out[0]) == 0, "join");
@@ -206,7 +233,7 @@ static void joins(const char *size, int cut) {
     TURNS(3)
         for (int k = 0; k < SHAPES; k++) {
             for (int side = 0; side < SIDES; side++) TIME(best[side][k], k, 1, join_of[side](TRIPLE, out[0][0], 128, out[0][1], 128, out[0][2], 128));
-            TIME(equal[k], k, 1, wedgeotter_equal(PAIR, a, 128, b, 128));
+            TIME(equal[k], k, 1, wedgeotter_exact(PAIR, a, 128, b, 128));
         }
     for (int side = 0; side < SIDES; side++) means[side] = mean(best[side]);
     show("join", size, SIDES, means);
@@ -245,51 +272,68 @@ static void few_joins(const char *size, size_t blocks, uint64_t most) {
     cut_joins(size);
 }
 
-// Narrowing of the pairs under each relation, in the mean over them; after the ratios to plain C that to our equality, and how many pairs are not none. Then joins.
+// What padding costs on a pair: our times under it to those to the letter, over the pairs on which both make the same passes, since both narrow or neither does, on
+// the worst of these, and on the worst of the others, where the letters allow no pair, so that the exact call ends after its first pass.
+static void show_padding(const double *padded, const double *exact, const uint64_t *padded_some, const uint64_t *exact_some) {
+    double over = 0, sum = 0, worst[2] = {0, 0};
+    for (int i = 0; i < SHAPES; i++) {
+        int alone = padded_some[i] != exact_some[i];
+        if (!alone) over += padded[i], sum += exact[i];
+        if (padded[i] / exact[i] > worst[alone]) worst[alone] = padded[i] / exact[i];
+    }
+    printf(", %.2f where both or neither do, at most %.2f", over / sum, worst[0]);
+    if (worst[1] > 0) printf(", at most %.2f where padding alone allows a pair", worst[1]);
+}
+
+// Narrowing of the pairs under each relation, in the mean over them; after the ratios to plain C that to our equality to the letter, and how many pairs are not none.
+// Then joins.
 static void narrows(const char *size, size_t blocks, uint64_t most, enum pairing with) {
-    uint64_t a[128], b[128], c[128], d[128], some[KINDS] = {0};
+    uint64_t a[128], b[128], c[128], d[128], some[RELATIONS][SHAPES];
     make_pairs(with, blocks, most);
-    for (int kind = 0; kind < KINDS; kind++)
+    for (int r = 0; r < RELATIONS; r++)
         for (int i = 0; i < SHAPES; i++) {
             memset(a, 0, sizeof a), memset(b, 0, sizeof b);
-            uint64_t ours = narrow_of[kind][0](PAIR, a, 128, b, 128);
+            some[r][i] = narrow_of[r][0](PAIR, a, 128, b, 128);
             for (int side = 1; side < SIDES; side++) {
                 memset(c, 0, sizeof c), memset(d, 0, sizeof d);
-                uint64_t plain = narrow_of[kind][side](PAIR, c, 128, d, 128);
-                same(ours == plain && memcmp(a, c, sizeof a) == 0 && memcmp(b, d, sizeof b) == 0, kind_of[kind]);
+                uint64_t plain = narrow_of[r][side](PAIR, c, 128, d, 128);
+                same(some[r][i] == plain && memcmp(a, c, sizeof a) == 0 && memcmp(b, d, sizeof b) == 0, relation_of[r]);
             }
-            some[kind] += ours;
         }
-    static double best[KINDS][SIDES][SHAPES];
-    double means[KINDS][SIDES];
+    static double best[RELATIONS][SIDES][SHAPES];
+    double means[RELATIONS][SIDES];
     memset(best, 0, sizeof best);
     TURNS(4)
-        for (int kind = 0; kind < KINDS; kind++)
+        for (int r = 0; r < RELATIONS; r++)
             for (int k = 0; k < SHAPES; k++)
-                for (int side = 0; side < SIDES; side++) TIME(best[kind][side][k], k, 1, narrow_of[kind][side](PAIR, a, 128, b, 128));
-    for (int kind = 0; kind < KINDS; kind++) {
-        for (int side = 0; side < SIDES; side++) means[kind][side] = mean(best[kind][side]);
-        show(kind_of[kind], size, SIDES, means[kind]);
-        printf(" %8.2f  %d of %d narrow\n", means[kind][0] / means[0][0], (int)some[kind], SHAPES);
+                for (int side = 0; side < SIDES; side++) TIME(best[r][side][k], k, 1, narrow_of[r][side](PAIR, a, 128, b, 128));
+    for (int r = 0; r < RELATIONS; r++) {
+        int narrow = 0;
+        for (int i = 0; i < SHAPES; i++) narrow += some[r][i];
+        for (int side = 0; side < SIDES; side++) means[r][side] = mean(best[r][side]);
+        show(relation_of[r], size, SIDES, means[r]);
+        printf(" %8.2f  %d of %d narrow", means[r][0] / means[0][0], narrow, SHAPES);
+        if (r == PADDED_EQUAL) show_padding(best[r][0], best[0][0], some[r], some[0]);
+        puts("");
     }
     cut_joins(size);
 }
 
-#define BLANK 255 // no character, so that bytes past a text show
+#define UNTOUCHED 255 // no character, so that bytes past a text show
 
-// The earliest common text of the pairs, in the mean over them; after the ratios to plain C that to our equality, and how many pairs meet.
+// The earliest common text of the pairs, in the mean over them; after the ratios to plain C that to our equality to the letter, and how many pairs meet.
 static void commons(const char *size, size_t blocks, uint64_t most, enum pairing with) {
     uint8_t ours[256], plain[256];
     uint64_t a[128], b[128];
     int some = 0;
     make_pairs(with, blocks, most);
     for (int i = 0; i < SHAPES; i++) {
-        memset(ours, BLANK, sizeof ours);
-        uint64_t n = wedgeotter_common(PAIR, ours, sizeof ours), meets = wedgeotter_equal(PAIR, a, 128, b, 128);
+        memset(ours, UNTOUCHED, sizeof ours);
+        uint64_t n = wedgeotter_common(PAIR, ours, sizeof ours), meets = wedgeotter_exact(PAIR, a, 128, b, 128);
         same(meets == (n <= 250), "whether there is a common text");
-        for (size_t k = meets ? n : 0; k < sizeof ours; k++) same(ours[k] == BLANK, "past the common text");
+        for (size_t k = meets ? n : 0; k < sizeof ours; k++) same(ours[k] == UNTOUCHED, "past the common text");
         for (int side = 1; side < SIDES; side++) {
-            memset(plain, BLANK, sizeof plain);
+            memset(plain, UNTOUCHED, sizeof plain);
             same(n == common_of[side](PAIR, plain, sizeof plain) && memcmp(ours, plain, sizeof ours) == 0, "common text");
         }
         some += meets;
@@ -300,7 +344,7 @@ static void commons(const char *size, size_t blocks, uint64_t most, enum pairing
     TURNS(2) {
         for (int k = 0; k < SHAPES; k++)
             for (int side = 0; side < SIDES; side++) TIME(best[side][k], k, 1, common_of[side](PAIR, ours, sizeof ours));
-        for (int k = 0; k < SHAPES; k++) TIME(equal[k], k, 1, wedgeotter_equal(PAIR, a, 128, b, 128));
+        for (int k = 0; k < SHAPES; k++) TIME(equal[k], k, 1, wedgeotter_exact(PAIR, a, 128, b, 128));
     }
     for (int side = 0; side < SIDES; side++) means[side] = mean(best[side]);
     show("common", size, SIDES, means);
@@ -309,14 +353,14 @@ static void commons(const char *size, size_t blocks, uint64_t most, enum pairing
 
 #define LETTERS 16
 
-// A random shape that the text w fits, of so many blocks and so many characters at most.
+// A random shape that the text w fits, of so many blocks and so many characters at most; its last base and half of the others have the blank.
 static size_t make_around(uint64_t *s, size_t blocks, uint64_t most, const uint8_t *w, size_t len) {
     uint64_t room = most;
     for (size_t i = 0; i < blocks; i++) {
         uint64_t u = most / blocks + (i < most % blocks);
         room -= u;
         uint64_t least = len > room ? len - room : 0, run = least + rnd((len < u ? len : u) - least + 1);
-        s[4 * i] = 0;
+        s[4 * i] = i + 1 == blocks || rnd(2) ? BLANK : 0;
         s[4 * i + 1] = (1ull << rnd(LETTERS) | 1ull << rnd(LETTERS) | 1ull << rnd(LETTERS)) << 33;
         s[4 * i + 2] = rnd(run + 1);
         s[4 * i + 3] = u;
@@ -331,11 +375,12 @@ static size_t make_around(uint64_t *s, size_t blocks, uint64_t most, const uint8
 static uint64_t counts[8], entered[1024], rules[64], made;
 static size_t numbers;
 
+static const uint64_t kinds[5] = {3, 0, 1, 2, 4}; // in turn, without joins from the second on
 static const int group_of[2][8] = {{0, 0, 0, 0, 1, 1, 1, 1}, {0, 0, 1, 1, 1, 1, 2, 2}};
 
 static int allowed(const int *group, uint64_t kind, uint64_t a, uint64_t b, uint64_t c) {
     if (kind == 3) return group[a] == 1 && group[b] == 0 && group[c] == 2;
-    return a != b && (kind == 0 ? group[a] == group[b] : kind == 1 ? group[a] <= group[b] : group[a] < group[b]);
+    return a != b && (kind == 0 || kind == 4 ? group[a] == group[b] : kind == 1 ? group[a] <= group[b] : group[a] < group[b]);
 }
 
 static void make_book(int joins, size_t blocks, uint64_t most) {
@@ -358,7 +403,7 @@ static void make_book(int joins, size_t blocks, uint64_t most) {
             numbers += make_around(entered + numbers, blocks, of[joins][g].most, of[joins][g].text, of[joins][g].length);
         }
         for (int j = 0; j < 16; j++) {
-            uint64_t a, b, c = 0, kind = j % (joins ? 4 : 3);
+            uint64_t a, b, c = 0, kind = joins ? kinds[j % 5] : kinds[1 + j % 4];
             do {
                 a = rnd(8), b = rnd(8);
                 if (kind == 3) c = rnd(8);
@@ -388,6 +433,7 @@ static uint64_t hosted(size_t n, uint8_t *report) {
 
 static void same_files(size_t n) {
     static uint8_t host_report[16384];
+    memset(report, UNTOUCHED, sizeof report), memset(host_report, UNTOUCHED, sizeof host_report);
     uint64_t ours = wedgeotter_file(file, n, report[0], sizeof report[0]);
     same(ours == hosted(n, host_report) && memcmp(report[0], host_report, sizeof host_report) == 0, "file from C");
     for (int side = 1; side < SIDES; side++)
@@ -409,7 +455,7 @@ static void files(const char *what, const char *size) {
     for (int k = 0; k < 40; k++) {
         size_t at = rnd(n);
         uint8_t was = file[at];
-        file[at] = "0123 \nR"[rnd(7)];
+        file[at] = "012345 \nR"[rnd(9)];
         same_files(n);
         file[at] = was;
         same_files(rnd(n));
@@ -443,8 +489,9 @@ static void books(const char *size, int joins, size_t blocks, uint64_t most) {
 
 int main(void) {
     puts("Times per call, the least of several turns, in the mean over the inputs: ours is the proved call, bytes plain C with byte tables, rows plain C with rows of bits.");
-    puts("After each plain C the ratio of ours to it; for narrowing, joins and common texts then that to our equality on the same pairs. Least text and sweep have one plain C.");
-    printf("%-37s %12s %12s %6s %12s %6s %8s\n", "", "ours", "bytes", "ratio", "rows", "ratio", "to equal");
+    puts("After each plain C the ratio of ours to it; for narrowing, joins and common texts then that to our equality to the letter on the same pairs. Least text and sweep");
+    puts("have one plain C. Equality but for padding makes a second pass on pairs that are none to the letter; the ratio without these follows, and the greatest of a pair.");
+    printf("%-52s %12s %12s %6s %12s %6s %8s\n", "", "ours", "bytes", "ratio", "rows", "ratio", "to equal");
     bounds("8 blocks, 40 characters", 8, 40);
     bounds("32 blocks, 250 characters", 32, 250);
     sweeps("8 blocks", 8, 40);
@@ -453,6 +500,8 @@ int main(void) {
     narrows("32 blocks, 250 characters", 32, 250, NEXT_ONE);
     narrows("8 blocks, 40, tight", 8, 40, TIGHT);
     narrows("32 blocks, 250, tight", 32, 250, TIGHT);
+    narrows("8 blocks, 40, padded fields", 8, 40, FIELDS);
+    narrows("32 blocks, 250, padded fields", 32, 250, FIELDS);
     books("8 blocks, 40 characters", 0, 8, 40);
     books("32 blocks, 250 characters", 0, 32, 250);
     commons("8 blocks, 40 characters", 8, 40, NEXT_ONE);

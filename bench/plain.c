@@ -158,16 +158,17 @@ uint64_t plain_sweep(const uint64_t *x, size_t nx, const uint64_t *y, size_t ny,
     return looks;
 }
 
-// Narrowing under equality with a byte table over pairs of positions, 251 to a row.
+// Narrowing under equality with a byte table over pairs of positions, 251 to a row. The slot past a shape's last has the padding for its base, and the position stays
+// there however much of it is taken: the text goes on in padding while the other's does.
 struct slot {
     uint64_t low, high, lower, upper;
 };
 
-static size_t lay(const uint64_t *s, size_t n, struct slot *to) {
+static size_t lay(const uint64_t *s, size_t n, uint64_t pad, struct slot *to) {
     size_t p = 0;
     for (size_t i = 0; i < n; i += 4)
         for (uint64_t k = 0; k < s[i + 3]; k++) to[p++] = (struct slot){s[i], s[i + 1], s[i + 2] > k ? s[i + 2] - k : 0, s[i + 3] - k};
-    to[p] = (struct slot){0, 0, 1, 0};
+    to[p] = (struct slot){pad, 0, 1, 0};
     return p;
 }
 
@@ -185,13 +186,14 @@ static void side(const uint64_t *x, size_t nx, const struct slot *ys, size_t m, 
             for (size_t j = 0; j <= m; j++)
                 if ((cell(t, turned, p, j) & 2) && (cell(t, turned, p + u, j) & 1)) least = 0;
         for (uint64_t k = 0; k < u; k++)
-            for (size_t j = 0; j < m; j++) {
+            for (size_t j = 0; j <= m; j++) {
+                size_t on = j + (j < m);
                 if (!(cell(t, turned, p + k, j) & 2) || !shared(&own, &ys[j])) continue;
-                if (cell(t, turned, p + k + 1, j + 1) & 1) {
+                if (cell(t, turned, p + k + 1, on) & 1) {
                     low |= own.low & ys[j].low;
                     high |= own.high & ys[j].high;
                 }
-                if (k + 1 >= x[i + 2] && (cell(t, turned, p + u, j + 1) & 1)) {
+                if (k + 1 >= x[i + 2] && (cell(t, turned, p + u, on) & 1)) {
                     if (k + 1 < least) least = k + 1;
                     if (k + 1 > most) most = k + 1;
                 }
@@ -212,15 +214,15 @@ static inline void from_ends(const struct slot *xs, size_t n, const struct slot 
             int v = i == n && j == m;
             if (!v && own.lower == 0) v = t[(i + own.upper) * 251 + j];
             if (!v && ys[j].lower == 0) v = t[i * 251 + j + ys[j].upper];
-            if (!v && shared(&own, &ys[j])) v = t[(i + 1) * 251 + j + 1];
+            if (!v && shared(&own, &ys[j])) v = t[(i + (i < n)) * 251 + j + (j < m)];
             t[i * 251 + j] = v;
         }
     }
 }
 
-static uint64_t equal(const uint64_t *x, size_t nx, const uint64_t *y, size_t ny, uint8_t *t, uint64_t *ox, uint64_t *oy) {
+static uint64_t equal(uint64_t pad, const uint64_t *x, size_t nx, const uint64_t *y, size_t ny, uint8_t *t, uint64_t *ox, uint64_t *oy) {
     static struct slot xs[251], ys[251];
-    size_t n = lay(x, nx, xs), m = lay(y, ny, ys);
+    size_t n = lay(x, nx, pad, xs), m = lay(y, ny, pad, ys);
     from_ends(xs, n, ys, m, t);
     uint64_t some = t[0];
     if (some) {
@@ -231,7 +233,7 @@ static uint64_t equal(const uint64_t *x, size_t nx, const uint64_t *y, size_t ny
                 if (!(t[i * 251 + j] & 2)) continue;
                 if (own.lower == 0) t[(i + own.upper) * 251 + j] |= 2;
                 if (ys[j].lower == 0) t[i * 251 + j + ys[j].upper] |= 2;
-                if (shared(&own, &ys[j])) t[(i + 1) * 251 + j + 1] |= 2;
+                if (shared(&own, &ys[j])) t[(i + (i < n)) * 251 + j + (j < m)] |= 2;
             }
         }
         side(x, nx, ys, m, t, 0, ox);
@@ -241,9 +243,17 @@ static uint64_t equal(const uint64_t *x, size_t nx, const uint64_t *y, size_t ny
     return some;
 }
 
-uint64_t plain_equal(const uint64_t *x, size_t nx, const uint64_t *y, size_t ny, uint8_t *t, size_t w, uint64_t *ox, size_t a, uint64_t *oy, size_t b) {
+static uint64_t check_equal(uint64_t pad, const uint64_t *x, size_t nx, const uint64_t *y, size_t ny, uint8_t *t, size_t w, uint64_t *ox, size_t a, uint64_t *oy, size_t b) {
     if (!plain_check(x, nx) || !plain_check(y, ny) || w < 63001 || a < nx || b < ny) return 1000;
-    return equal(x, nx, y, ny, t, ox, oy);
+    return equal(pad, x, nx, y, ny, t, ox, oy);
+}
+
+uint64_t plain_exact(const uint64_t *x, size_t nx, const uint64_t *y, size_t ny, uint8_t *t, size_t w, uint64_t *ox, size_t a, uint64_t *oy, size_t b) {
+    return check_equal(NOTHING, x, nx, y, ny, t, w, ox, a, oy, b);
+}
+
+uint64_t plain_padded(const uint64_t *x, size_t nx, const uint64_t *y, size_t ny, uint8_t *t, size_t w, uint64_t *ox, size_t a, uint64_t *oy, size_t b) {
+    return check_equal(BLANK, x, nx, y, ny, t, w, ox, a, oy, b);
 }
 
 // A set of positions, a byte to each, with the ends of the runs that may end in it.
@@ -279,7 +289,7 @@ uint64_t plain_common(const uint64_t *x, size_t nx, const uint64_t *y, size_t ny
     if (!plain_check(x, nx) || !plain_check(y, ny) || w < 63001 || k < 250) return 1000;
     static struct slot xs[251], ys[251];
     uint8_t own[251] = {1}, other[251] = {1};
-    size_t n = lay(x, nx, xs), m = lay(y, ny, ys), at = 0;
+    size_t n = lay(x, nx, NOTHING, xs), m = lay(y, ny, NOTHING, ys), at = 0;
     from_ends(xs, n, ys, m, t);
     int some = t[0];
     stop_runs(xs, n, own);
@@ -324,7 +334,7 @@ static int ends(const struct slot *own, const struct slot *next, size_t m, const
 // matches so far. From position `free` on a text may have parted, and then anything goes.
 static int one_side(int up, int strict, const uint64_t *x, size_t nx, const uint8_t *text, size_t m, uint8_t *t, uint64_t *out) {
     static struct slot xs[251], next[251], parts[251];
-    size_t n = lay(x, nx, xs), p = 0, free;
+    size_t n = lay(x, nx, NOTHING, xs), p = 0, free;
     guide(up, strict, text, m, next, parts);
     for (size_t i = n + 1; i-- > 0;) {
         struct slot own = xs[i];
@@ -396,16 +406,16 @@ uint64_t plain_before(const uint64_t *x, size_t nx, const uint64_t *y, size_t ny
 }
 
 uint64_t plain_by_kind(uint64_t kind, const uint64_t *x, size_t nx, const uint64_t *y, size_t ny, uint8_t *t, uint64_t *ox, uint64_t *oy) {
-    if (kind == 0) return equal(x, nx, y, ny, t, ox, oy);
+    if (kind == 0 || kind == 4) return equal(kind == 0 ? BLANK : NOTHING, x, nx, y, ny, t, ox, oy);
     return order(kind == 2, x, nx, y, ny, t, 63001, ox, nx, oy, ny);
 }
 
-// A join of checked shapes: equality of the blocks of Y with those of Z behind them, up to 64, and X.
+// A join of checked shapes: equality to the letter of the blocks of Y with those of Z behind them, up to 64, and X.
 uint64_t run_join(narrowing_by_kind *narrow, const uint64_t *x, size_t nx, const uint64_t *y, size_t ny, const uint64_t *z, size_t nz, uint8_t *t, uint64_t *ox, uint64_t *oy, uint64_t *oz) {
     uint64_t both[256], out[256];
     memcpy(both, y, ny * sizeof *both);
     memcpy(both + ny, z, nz * sizeof *both);
-    uint64_t some = narrow(0, both, ny + nz, x, nx, t, out, ox);
+    uint64_t some = narrow(4, both, ny + nz, x, nx, t, out, ox);
     if (some) {
         memcpy(oy, out, ny * sizeof *out);
         memcpy(oz, out + ny, nz * sizeof *out);
@@ -435,7 +445,7 @@ struct refusal plain_check_book(const uint64_t *counts, size_t texts, const uint
     }
     for (size_t j = 0; j < nr; j += 4) {
         uint64_t kind = rules[j], a = rules[j + 1], b = rules[j + 2], c = rules[j + 3];
-        int right = kind <= 3 && a >= 1 && a <= texts && b >= 1 && b <= texts && a != b;
+        int right = kind <= 4 && a >= 1 && a <= texts && b >= 1 && b <= texts && a != b;
         if (!right || (kind == 3 ? c < 1 || c > texts || c == a || c == b : c != 0)) return (struct refusal){7, 0, j / 4 + 1};
         if (kind == 3 && total[b - 1] + total[c - 1] > 250) return (struct refusal){12, 0, j / 4 + 1};
     }

@@ -17,7 +17,7 @@ typedef uint64_t filing(const uint8_t *file, size_t n, uint8_t *report, size_t k
 uint64_t plain_least(const uint64_t *s, size_t n, uint8_t *out, size_t k);
 uint64_t plain_sweep(const uint64_t *x, size_t nx, const uint64_t *y, size_t ny, uint64_t *out, size_t k);
 fitting plain_fits, rows_fits;
-narrowing plain_equal, plain_at_most, plain_before, rows_equal, rows_at_most, rows_before;
+narrowing plain_exact, plain_padded, plain_at_most, plain_before, rows_exact, rows_padded, rows_at_most, rows_before;
 joining plain_join, rows_join;
 showing plain_common, rows_common; // the text's length, 1000 for a refusal, 2000 for none
 running plain_book, rows_book;
@@ -34,7 +34,11 @@ struct refusal {
 };
 struct refusal plain_check_book(const uint64_t *counts, size_t texts, const uint64_t *blocks, size_t nb, const uint64_t *rules, size_t nr, size_t w);
 
-// Kinds 0 to 2; under equality x may have up to 64 blocks.
+// The padding that an equality lets be dropped at the ends, as a base's first word: nothing, which is equality to the letter, or the blank.
+#define NOTHING 0ull
+#define BLANK (1ull << 32)
+
+// Kinds 0, 1, 2 and 4; under an equality x may have up to 64 blocks.
 typedef uint64_t narrowing_by_kind(uint64_t kind, const uint64_t *x, size_t nx, const uint64_t *y, size_t ny, uint8_t *t, uint64_t *ox, uint64_t *oy);
 narrowing_by_kind plain_by_kind;
 uint64_t run_join(narrowing_by_kind *narrow, const uint64_t *x, size_t nx, const uint64_t *y, size_t ny, const uint64_t *z, size_t nz, uint8_t *t, uint64_t *ox, uint64_t *oy, uint64_t *oz);

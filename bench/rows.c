@@ -150,27 +150,55 @@ static void lengths(const uint64_t *y, const struct laid *laid, struct row moved
     }
 }
 
-// Equality's first pass: for each position of X the row of the positions of Y that one text leads to from the starts. Answers whether it leads to both ends.
-static int reach(const uint64_t *x, size_t nx, const uint64_t *y, const struct laid *laid, struct row *mines, struct row *rows) {
+// The last row, where X has ended and Y alone goes on: by the ends of its runs, and over padding in every block that has it.
+static struct row trail(uint64_t pad, const uint64_t *y, const struct laid *laid, struct row r) {
+    for (size_t j = 0; j < laid->blocks; j++) {
+        struct row here = both(r, laid->slots[j]);
+        if (!any(here)) continue;
+        if (y[4 * j] & pad) r = either(r, without(either(laid->slots[j], laid->ends[j]), between(0, first(here))));
+        else if (meet(here, laid->zones[j])) r = either(r, laid->ends[j]);
+    }
+    return r;
+}
+
+// The same backwards from Y's end; `quit` gathers the zones that are let in, `taken` the positions where padding is taken.
+static struct row trail_back(uint64_t pad, const uint64_t *y, const struct laid *laid, struct row *quit, struct row *taken) {
+    struct row r = single(laid->total);
+    for (size_t j = laid->blocks; j-- > 0;) {
+        if (!meet(r, laid->ends[j])) continue;
+        *quit = either(*quit, laid->zones[j]);
+        if (y[4 * j] & pad) *taken = either(*taken, laid->slots[j]);
+        r = either(r, either(*quit, *taken));
+    }
+    return r;
+}
+
+// Where Y waits while block b of X takes a character: at its end, if that may be padding.
+static inline struct row waiting(uint64_t pad, const uint64_t *b, const struct laid *laid) { return b[0] & pad ? single(laid->total) : none; }
+
+// Equality's first pass: for each position of X the row of the positions of Y that one text, but for padding, leads to from the starts. Answers whether it leads to
+// both ends.
+static int reach(uint64_t pad, const uint64_t *x, size_t nx, const uint64_t *y, const struct laid *laid, struct row *mines, struct row *rows) {
     struct row r = single(0);
     for (size_t i = 0; i < nx / 4; i++) {
-        struct row mine = matching(x + 4 * i, y, laid), stopped = none;
+        struct row mine = matching(x + 4 * i, y, laid), waits = waiting(pad, x + 4 * i, laid), stopped = none;
         mines[i] = mine;
         for (uint64_t o = 0; o < x[4 * i + 3]; o++) {
             r = forward(laid, r);
             *rows++ = r;
             if (o >= x[4 * i + 2]) stopped = either(stopped, r);
-            r = up(both(r, mine));
+            r = either(up(both(r, mine)), both(r, waits));
         }
         r = either(r, stopped);
     }
-    *rows = forward(laid, r);
+    *rows = trail(pad, y, laid, r);
     return meet(*rows, single(laid->total));
 }
 
-// The characters that block b takes beside Y at the positions `used`, for it and for the blocks of Y.
-static void give(const uint64_t *b, const uint64_t *y, const struct laid *laid, struct row used, uint64_t *own, uint64_t *other) {
-    own[0] = own[1] = 0;
+// The characters that block b takes beside Y at the positions `used`, for it and for the blocks of Y. At Y's end it takes padding.
+static void give(uint64_t pad, const uint64_t *b, const uint64_t *y, const struct laid *laid, struct row used, uint64_t *own, uint64_t *other) {
+    own[0] = meet(used, single(laid->total)) ? b[0] & pad : 0;
+    own[1] = 0;
     for (size_t j = 0; j < laid->blocks; j++) {
         if (!meet(used, laid->slots[j])) continue;
         uint64_t low = b[0] & y[4 * j], high = b[1] & y[4 * j + 1];
@@ -182,16 +210,19 @@ static void give(const uint64_t *b, const uint64_t *y, const struct laid *laid, 
 }
 
 // Equality's second pass, from the ends: its rows are not kept, since what each tells of the blocks is gathered on the way.
-static void back(const uint64_t *x, size_t nx, const uint64_t *y, const struct laid *laid, const struct row *mines, const struct row *rows, uint64_t *ox, uint64_t *oy) {
+static void back(uint64_t pad, const uint64_t *x, size_t nx, const uint64_t *y, const struct laid *laid, const struct row *mines, const struct row *rows, uint64_t *ox, uint64_t *oy) {
     size_t p = 0;
     for (size_t i = 0; i < nx; i += 4) p += x[i + 3];
-    for (size_t j = 0; j < laid->blocks; j++) oy[4 * j] = oy[4 * j + 1] = 0;
-    struct row quit = none, r = backward(laid, single(laid->total), &quit), ended = both(rows[p], quit), moved = none;
+    struct row quit = none, taken = none, r = trail_back(pad, y, laid, &quit, &taken), ended = both(rows[p], quit), moved = both(rows[p], taken);
+    for (size_t j = 0; j < laid->blocks; j++) {
+        oy[4 * j] = meet(moved, laid->slots[j]) ? y[4 * j] & pad : 0;
+        oy[4 * j + 1] = 0;
+    }
     for (size_t i = nx / 4; i-- > 0;) {
         uint64_t lower = x[4 * i + 2], upper = x[4 * i + 3], least = upper ? 251 : 0, most = 0;
-        struct row mine = mines[i], stop = r, used = none;
+        struct row mine = mines[i], waits = waiting(pad, x + 4 * i, laid), stop = r, used = none;
         for (uint64_t o = upper; o-- > 0;) {
-            struct row f = rows[--p], step = both(down(r), mine), here = both(f, step);
+            struct row f = rows[--p], step = either(both(down(r), mine), both(r, waits)), here = both(f, step);
             used = either(used, here);
             if (o + 1 == upper && any(here)) least = most = upper;
             r = step;
@@ -207,7 +238,7 @@ static void back(const uint64_t *x, size_t nx, const uint64_t *y, const struct l
             ended = either(ended, both(f, quit));
         }
         moved = either(moved, used);
-        give(x + 4 * i, y, laid, used, ox + 4 * i, oy);
+        give(pad, x + 4 * i, y, laid, used, ox + 4 * i, oy);
         ox[4 * i + 2] = least;
         ox[4 * i + 3] = most;
     }
@@ -215,12 +246,12 @@ static void back(const uint64_t *x, size_t nx, const uint64_t *y, const struct l
 }
 
 // X may have up to 64 blocks.
-static uint64_t narrow_equal(const uint64_t *x, size_t nx, const uint64_t *y, size_t ny, uint64_t *ox, uint64_t *oy) {
+static uint64_t narrow_equal(uint64_t pad, const uint64_t *x, size_t nx, const uint64_t *y, size_t ny, uint64_t *ox, uint64_t *oy) {
     struct laid laid;
     struct row mines[64], rows[251];
     lay(y, ny, &laid);
-    if (!reach(x, nx, y, &laid, mines, rows)) return 0;
-    back(x, nx, y, &laid, mines, rows, ox, oy);
+    if (!reach(pad, x, nx, y, &laid, mines, rows)) return 0;
+    back(pad, x, nx, y, &laid, mines, rows, ox, oy);
     return 1;
 }
 
@@ -420,7 +451,8 @@ static uint64_t narrow_order(int strict, const uint64_t *x, size_t nx, const uin
 
 static uint64_t by_kind(uint64_t kind, const uint64_t *x, size_t nx, const uint64_t *y, size_t ny, uint8_t *t, uint64_t *ox, uint64_t *oy) {
     (void)t; // the rows stand on the stack
-    return kind == 0 ? narrow_equal(x, nx, y, ny, ox, oy) : narrow_order(kind == 2, x, nx, y, ny, ox, oy);
+    if (kind == 0 || kind == 4) return narrow_equal(kind == 0 ? BLANK : NOTHING, x, nx, y, ny, ox, oy);
+    return narrow_order(kind == 2, x, nx, y, ny, ox, oy);
 }
 
 // The work buffer is not used, but handed back cleared as from every call.
@@ -430,7 +462,11 @@ static uint64_t narrow(uint64_t kind, const uint64_t *x, size_t nx, const uint64
     return by_kind(kind, x, nx, y, ny, t, ox, oy);
 }
 
-uint64_t rows_equal(const uint64_t *x, size_t nx, const uint64_t *y, size_t ny, uint8_t *t, size_t w, uint64_t *ox, size_t a, uint64_t *oy, size_t b) {
+uint64_t rows_exact(const uint64_t *x, size_t nx, const uint64_t *y, size_t ny, uint8_t *t, size_t w, uint64_t *ox, size_t a, uint64_t *oy, size_t b) {
+    return narrow(4, x, nx, y, ny, t, w, ox, a, oy, b);
+}
+
+uint64_t rows_padded(const uint64_t *x, size_t nx, const uint64_t *y, size_t ny, uint8_t *t, size_t w, uint64_t *ox, size_t a, uint64_t *oy, size_t b) {
     return narrow(0, x, nx, y, ny, t, w, ox, a, oy, b);
 }
 

@@ -4,12 +4,12 @@ from itertools import permutations, product
 
 from making import (
     ONE_EACH, TWO_BAD, Dice, block, carved, counted, hexes, hold_lines_to_room, large_shape, lists_read, many_blocks,
-    numbers_read, random_filling, random_text, shared_out, small_blocks, unsound_blocks, words_of, written,
+    numbers_read, padded_anew, random_filling, random_text, shared_out, small_blocks, unsound_blocks, words_of, written,
 )
 from joins import JOIN, narrowed_join
 from narrow import LONGEST_WORK, TOGETHER, work_shown
-from pairs import AT_MOST, BEFORE, EQUAL, HOLDS, KINDS, narrowed
-from shapes import MOST_BLOCKS, WORK_WANTED, Refused, agree, all_texts, fillings, shape_of, too_long, total
+from pairs import AT_MOST, BEFORE, EQUAL, EQUALITIES, EXACT, HOLDS, KINDS, narrowed
+from shapes import BLANK, MOST_BLOCKS, WORK_WANTED, Refused, agree, all_texts, fillings, shape_of, too_long, total
 
 MOST_TEXTS = 8
 MOST_RULES = 16
@@ -156,17 +156,23 @@ class Cases:
         self.lent([len(text) // 4 for text in texts], words, [n for rule in rules for n in four(rule)], work)
 
 
+def hold_run_to_answer(what, texts, rules, final, applications):
+    """Raises where the run of a book does not end as it should, texts and final ones written, None for none."""
+    found, made = run([shape_of(written(text)) for text in texts], [four(rule) for rule in rules])
+    agree(what, (texts, rules), found and [words_of(shape) for shape in found], final and [*map(written, final)])
+    agree(what, (texts, rules), made, applications)
+
+
 def hold_to_example():
-    """Document 01's book."""
-    texts = [shape_of(written("{a,b,c}0..3")), shape_of(written("{b,c,d}2..2"))]
-    final, applications = run(texts, [four((EQUAL, 1, 2))])
-    agree("document 01's book", texts, [words_of(shape) for shape in final], [written("{b,c}2..2")] * 2)
-    agree("document 01's book", texts, applications, 2)
+    """Document 01's book, in which both equalities are the same."""
+    for kind in EQUALITIES:
+        hold_run_to_answer("document 01's book", ["{a,b,c}0..3", "{b,c,d}2..2"], [(kind, 1, 2)], ["{b,c}2..2"] * 2, 2)
 
 
 def picked_cases(cases):
-    cases.book([written("{a,b,c}0..3"), written("{b,c,d}2..2")], [(EQUAL, 1, 2)])
-    cases.book([written("{a,b,c}0..3"), written("{b,c,d}2..2")], [(EQUAL, 2, 1)])
+    for kind in EQUALITIES:
+        cases.book([written("{a,b,c}0..3"), written("{b,c,d}2..2")], [(kind, 1, 2)])
+        cases.book([written("{a,b,c}0..3"), written("{b,c,d}2..2")], [(kind, 2, 1)])
     cases.book([written("a0..2"), written("a0..1")], [(BEFORE, 1, 2)])
     cases.book([written("a0..2"), written("a0..1")], [(BEFORE, 2, 1)])
     # Two rules that only together say none.
@@ -206,15 +212,68 @@ def round_cases(cases):
         texts = [block((0, 1, 2), 0, 12 + text) + block([text % 3], 1, 4) for text in range(count)]
         for rules in (web, web[::-1], web[::2] + web[1::2], web + [(EQUAL, count, 1)]):
             cases.book(texts, rules)
+            cases.book(texts, made_exact(rules))
 
 
 SERIAL = ["{0..9,A..Z,-}0..12", "{A..Z}0..6 {0..9}0..6", "{A..Z}2..3", "{1..9}1..1 {0..9}3..4", "-1..1 {A..F}1..1"]
+
+
+def made_exact(rules):
+    """The rules with exact equality in place of the other one."""
+    return [(EXACT, *rule[1:]) if rule[0] == EQUAL else rule for rule in rules]
 
 
 def every_order(cases, texts, rules):
     """The book with its rules in several orders."""
     for order in permutations(rules) if len(rules) < 3 else (rules, rules[::-1], rules[1:] + rules[:1]):
         cases.book(texts, list(order))
+
+
+# Books with padded fields: the texts, the rules, the texts at the end and the applications, as they are found by hand.
+UNIT, LETTERS = "N1..1 m1..1 { }4..4", "{A..Z,a..z}1..6"
+PADDED = (
+    ([UNIT, LETTERS], [(EQUAL, 1, 2)], [UNIT, "{N,m}2..2"], 2),
+    ([UNIT, LETTERS], [(EXACT, 1, 2)], None, 1),
+    ([UNIT, LETTERS, "N1..1 {M,m}1..1 { }0..9"], [(EQUAL, 1, 2), (EXACT, 1, 3)], [UNIT, "{N,m}2..2", UNIT], 4),
+    ([UNIT, LETTERS, "N1..1 {M,m}1..1 { }0..9"], [(EQUAL, 1, 2), (EXACT, 2, 3)],
+     [UNIT, "{N,m}2..2", "N1..1 m1..1 empty 0..0"], 4),
+    # No rule of kind 0 takes padding from another, also in a ring.
+    (["a1..1 { }0..1", "a1..1 { }5..9", "a1..1"], [(EQUAL, 1, 2), (EQUAL, 2, 3), (EQUAL, 3, 1)],
+     ["a1..1 { }0..1", "a1..1 { }5..9", "a1..1"], 3),
+    (["a1..1 { }0..1", "a1..1 { }5..9", "b1..1"], [(EQUAL, 1, 2), (EQUAL, 2, 3), (EQUAL, 3, 1)], None, 2),
+    # Both equalities of the same texts.
+    (["a1..1 { }0..4", "a1..1 { }1..9"], [(EQUAL, 1, 2), (EXACT, 1, 2)], ["a1..1 { }1..4"] * 2, 4),
+    (["a1..1 { }0..1", "a1..1 { }2..3"], [(EQUAL, 1, 2), (EXACT, 1, 2)], None, 2),
+    # One text can come before another that it equals but for padding; exactly equal it cannot.
+    (["a1..1 { }0..3"] * 2, [(EQUAL, 1, 2), (BEFORE, 1, 2)], ["a1..1 { }0..2", "a1..1 { }1..3"], 4),
+    (["a1..1 { }0..3"] * 2, [(EXACT, 1, 2), (BEFORE, 1, 2)], None, 5),
+    (["a1..1 { }0..3"] * 2, [(EXACT, 1, 2), (AT_MOST, 2, 1)], ["a1..1 { }0..3"] * 2, 2),
+    # Fields joined with their padding, which counts there.
+    (["{a,b, }5..5", "a1..1 { }0..4", "b0..2", "a1..1"], [(JOIN, 1, 2, 3), (EQUAL, 2, 4)],
+     ["{a,b, }5..5", "a1..1 { }2..4", "b0..2", "a1..1"], 4),
+    (["{a,b, }5..5", "a1..1 { }0..4", "b0..2", "a1..1"], [(JOIN, 1, 2, 3), (EXACT, 2, 4)], None, 2),
+    (["{a, }0..4", "a1..2", "{ }1..2"], [(JOIN, 1, 2, 3), (EQUAL, 1, 2)], ["{a, }2..4", "a1..2", "{ }1..2"], 4),
+    (["{a, }0..4", "a1..2", "{ }1..2"], [(JOIN, 1, 2, 3), (EXACT, 1, 2)], None, 3),
+)
+
+
+def padded_cases(cases):
+    for texts, rules, final, applications in PADDED:
+        hold_run_to_answer("padded fields, found by hand", texts, rules, final, applications)
+        every_order(cases, [written(text) for text in texts], rules)
+    # As long as may be: 250 blanks, and none.
+    texts = [written(text) for text in ("{ }250..250", "empty 0..0", "{ }0..249 a0..1", "{a, }250..250")]
+    for rules in (
+        [(EQUAL, 1, 2), (EQUAL, 2, 3)],
+        [(EQUAL, 1, 2), (EXACT, 2, 3)],
+        [(EQUAL, 3, 4), (EQUAL, 2, 3), (EXACT, 1, 4)],
+        [(EXACT, 3, 4), (EQUAL, 4, 2)],
+        [(JOIN, 1, 2, 4), (EQUAL, 2, 3), (BEFORE, 3, 1)],
+    ):
+        every_order(cases, texts, rules)
+    for work in (0, WORK_WANTED - 1, WORK_WANTED, LONGEST_WORK):
+        cases.book([written(UNIT), written(LETTERS)], [(EQUAL, 1, 2)], work)
+        cases.book([written(UNIT), written(LETTERS)], [(EXACT, 1, 2)], work)
 
 
 def join_cases(cases):
@@ -250,6 +309,8 @@ def join_cases(cases):
         [(JOIN, 1, 2, 3), (JOIN, 1, 4, 5), (EQUAL, 2, 4), (AT_MOST, 5, 3)],
     ):
         every_order(cases, texts, rules)
+        if made_exact(rules) != rules:
+            every_order(cases, texts, made_exact(rules))
     # Joins that go round: each round takes a little, until nothing is left or a text is empty.
     for most in (2, 5, 12):
         text, more = block([0], 0, most), block([0], 1, most)
@@ -269,7 +330,7 @@ def join_cases(cases):
 
 def join_book(dice, tiny=False):
     """Texts over one alphabet, some of them two others joined; in most books all rules are kept by some texts."""
-    codes = dice.pick(((0, 1), (64, 65), (0, 64)) if tiny else ((0, 1), (0, 1, 2), (0, 63, 64, 127)))
+    codes = dice.pick(((0, 1), (0, 64), b" A") if tiny else ((0, 1), (0, 1, 2), (0, 63, 64, 127), b" A"))
     kept = dice.below(5) > 0
     length, joins = (1, (1, 1, 2)) if tiny else (3, (1, 2, 2, 3, 4))
     stems = [random_text(dice, codes, dice.between(0, length)) for _ in range(2 if tiny else dice.between(2, 4))]
@@ -308,7 +369,7 @@ def random_join_cases(cases):
 
 def random_book(dice):
     """Texts over one alphabet; in most books all rules are kept by some texts, so that the run goes on for long."""
-    codes = dice.pick(((0, 1), (0, 1, 2), (64, 65), (0, 64)))
+    codes = dice.pick(((0, 1), (0, 1, 2), (64, 65), (0, 64), b" A", b" A", b" A"))
     count = dice.pick((1, 2, 2, 3, 3, 4, 5, 8))
     kept = dice.below(4) > 0
     stems, texts = [], []
@@ -316,6 +377,8 @@ def random_book(dice):
     for _ in range(count):
         if dice.below(3):
             stem = random_filling(dice, shape_of(small_blocks(dice, codes)))
+        elif BLANK in codes:
+            stem = padded_anew(dice, stem, 2)
         stems.append(stem)
         texts.append(carved(dice, codes, stem, dice.between(1, 3)) if kept else small_blocks(dice, codes))
     rules = []
@@ -334,16 +397,17 @@ def random_book(dice):
 def wide_book(dice):
     """Wide texts in a chain, sometimes closed to a cycle, the rules in any order: each round takes little away."""
     count = dice.between(2, 6)
+    low, high = dice.pick(((0, 1), (0, 1), (31, BLANK), (BLANK, 33)))
     texts = []
     for _ in range(count):
-        text = block(dice.pick(([0], [0], [0, 1], [1])), 0, dice.between(1, 6))
-        texts.append(text + block([dice.below(2)], 0, dice.between(1, 3)) if dice.below(3) == 0 else text)
+        text = block(dice.pick(([low], [low], [low, high], [high])), 0, dice.between(1, 6))
+        texts.append(text + block([dice.pick((low, high))], 0, dice.between(1, 3)) if dice.below(3) == 0 else text)
     rules = [(dice.pick((AT_MOST, BEFORE, BEFORE)), text, text + 1) for text in range(1, count)]
     if dice.below(2):
         rules.append((dice.pick(KINDS), count, 1))
     if dice.below(3) == 0:
         one = dice.between(1, count)
-        rules.append((EQUAL, one, one % count + 1))
+        rules.append((dice.pick(EQUALITIES), one, one % count + 1))
     return texts, shuffled(dice, rules)
 
 
@@ -370,9 +434,16 @@ def large_cases(cases):
         codes, words = large_shape(dice)
         text = random_filling(dice, shape_of(words))
         texts = [words] + [carved(dice, codes, text, dice.pick((2, 8, 32))) for _ in range(count - 1)]
-        rules = [(dice.pick((EQUAL, AT_MOST)), number, number + 1) for number in range(1, count)]
+        rules = [(dice.pick((*EQUALITIES, AT_MOST)), number, number + 1) for number in range(1, count)]
         cases.book(texts, rules)
         cases.book(texts, rules[::-1])
+    # Long texts with blanks, equal but for those at the end.
+    for _ in range(3):
+        codes, words = large_shape(dice, (b" A", b" AB"))
+        text = random_filling(dice, shape_of(words))
+        texts = [words] + [carved(dice, codes, padded_anew(dice, text, 250), dice.pick((8, 32))) for _ in range(3)]
+        cases.book(texts, [(EQUAL, 1, 2), (EQUAL, 3, 4), (EQUAL, 2, 3), (AT_MOST, 1, 4)])
+        cases.book(texts, [(EQUAL, 1, 2), (EQUAL, 1, 3), (EXACT, 2, 3)])
     # The most blocks, with and without rules.
     full = [block([number % 2], 0, 7) * MOST_BLOCKS for number in range(MOST_TEXTS)]
     cases.book(full, [])
@@ -431,6 +502,7 @@ def count_cases(cases):
             cases.lent(counts, bad + words[4:] if len(words) >= 4 else words, rules or [3, 0, 0, 0], WORK_WANTED - 1)
     # Right ones at the limits, so that it is seen what is refused.
     cases.lent([1] * 8, good * 8, [0, 1, 2, 0] * 16)
+    cases.lent([1] * 8, good * 8, [4, 1, 2, 0] * 16)
     cases.lent([1] * 8, good * 8, [3, 1, 2, 3] * 16)
     cases.lent([32], good * 32, [])
     cases.lent([32, 1, 32], good * 65, [0, 1, 2, 0])
@@ -479,12 +551,13 @@ def rule_cases(cases):
     """Wrong rules (7), the first of them named, before the work buffer."""
     texts = [block([0], 0, 3), block([0, 1], 1, 2), block([1], 0, 4)]
     good = (AT_MOST, 1, 2)
-    wrong = [(3, 1, 2), (4, 1, 2), (EQUAL, 0, 1), (EQUAL, 1, 0), (EQUAL, 4, 1), (EQUAL, 1, 4), (EQUAL, 0, 0)]
+    wrong = [(3, 1, 2), (5, 1, 2), (EQUAL, 0, 1), (EQUAL, 1, 0), (EQUAL, 4, 1), (EQUAL, 1, 4), (EQUAL, 0, 0)]
     wrong += [(kind, text, text) for kind in KINDS for text in (1, 2, 3)]
     wrong += [(far, 1, 2) for far in FAR] + [(0, far, 2) for far in FAR] + [(0, 1, far) for far in FAR]
     for far in FAR[:-1]:
-        wrong += [(far + 1, 1, 2), (0, far + 1, 2), (2, 1, far + 2)]
+        wrong += [(far + 1, 1, 2), (far + 4, 1, 2), (0, far + 1, 2), (2, 1, far + 2), (4, far + 2, 1)]
     wrong += [(0, far, far) for far in FAR]
+    wrong += [(EXACT, 0, 1), (EXACT, 1, 0), (EXACT, 4, 1), (EXACT, 1, 4)]
     for rule in wrong:
         cases.book(texts, [rule])
         cases.book(texts, [good, rule, rule], WORK_WANTED - 1)
@@ -509,12 +582,13 @@ def wrong_joins():
     for far in FAR:
         yield from ((JOIN, 1, 2, far), (JOIN, 1, far, 2), (JOIN, far, 1, 2), (JOIN, far, far, far))
         yield from ((kind, 1, 2, far) for kind in KINDS)
-    # What a narrower number would take for 3, or for a text.
+    # What a narrower number would take for 3, for 4, or for a text.
     for far in FAR[:-1]:
         yield from ((JOIN, 1, 2, far + 3), (JOIN, 1, far + 2, 3), (far + 3, 1, 2, 3), (far + 3, 1, 2, 0))
-    for kind in (*KINDS, 4, 5, 6):
+        yield from ((far + 4, 1, 2, 0), (EXACT, 1, 2, far + 4), (5, 1, 2, far), (far + 5, far, far, 0))
+    for kind in (*KINDS, 5, 6, 7):
         yield from ((kind, 1, 2, fourth) for fourth in (1, 2, 3, 4, 5, 9))
-    yield from ((4, 1, 2, 0), (4, 1, 2, 3), (5, 1, 2, 0), (2**64 - 1, 2**64 - 1, 2**64 - 1, 2**64 - 1))
+    yield from ((5, 1, 2, 0), (6, 1, 2, 0), (7, 1, 2, 0), (8, 1, 2, 0), (2**64 - 1, 2**64 - 1, 2**64 - 1, 2**64 - 1))
 
 
 def join_rule_cases(cases):
@@ -543,7 +617,8 @@ def join_rule_cases(cases):
     over, wrong = good, (JOIN, 1, 2, 9)
     for rules in (
         [over, wrong], [wrong, over], [over, over], [(JOIN, 1, 4, 2), over, wrong], [(EQUAL, 1, 2, 3)],
-        [(JOIN, 2, 2, 3)], [(JOIN, 2, 3, 3)], [(4, 1, 2, 3)], [(JOIN, 0, 2, 3), over], [(JOIN, 5, 2, 3)],
+        [(JOIN, 2, 2, 3)], [(JOIN, 2, 3, 3)], [(EXACT, 1, 2, 3)], [(JOIN, 0, 2, 3), over], [(JOIN, 5, 2, 3)],
+        [(5, 1, 2, 3)], [(EXACT, 1, 4), over], [over, (5, 1, 2)],
         [(EQUAL, 1, 1), over], [over, (EQUAL, 1, 1)], [(JOIN, 4, 1, 2), (JOIN, 4, 3, 2), (7, 7, 7, 7)],
     ):
         for work in (WORK_WANTED, WORK_WANTED - 1):
@@ -574,6 +649,7 @@ def all_cases():
     rule_cases(cases)
     random_cases(cases)
     join_cases(cases)
+    padded_cases(cases)
     join_rule_cases(cases)
     random_join_cases(cases)
     large_cases(cases)

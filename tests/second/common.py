@@ -14,7 +14,7 @@ from making import (
     refused_pairs, small_blocks, small_pair, written,
 )
 from narrow import TABLE, work_shown
-from pairs import EQUAL, narrowed
+from pairs import EXACT, narrowed
 from shapes import (
     FEW_FILLINGS, MOST_BLOCKS, MOST_CHARACTERS, WORK_WANTED, Refused, agree, all_texts, fillings, pair_of, shape_of,
 )
@@ -105,7 +105,7 @@ def earliest(first, second):
 
 
 def hold_to_laws(first, second, text):
-    pair = narrowed(first, second, EQUAL)
+    pair = narrowed(first, second, EXACT)
     agree("none as in narrowing", (first, second), text is None, pair is None)
     if text is None:
         return
@@ -239,6 +239,14 @@ ANSWERS = (
     ("{a,b}249..250", "{a,b}249..249", "a" * 249),
     ("{a,b}125..125 {c,d}125..125", "{b..d}250..250", "b" * 125 + "c" * 125),
     ("{a,b}125..125 {c,d}125..125", "{a..c}124..124 {d..f}126..126", None),
+    # Blanks at the end count as all characters do.
+    ("{ }1..1", "empty 0..0", None),
+    ("{ }0..3", "{ }2..9", "  "),
+    ("a1..1 { }1..1", "a1..1", None),
+    ("a1..1 { }4..4", "a1..1 { }0..9", "a    "),
+    ("a1..1 { }4..4", "a1..1 { }5..9", None),
+    ("{a, }2..2", "a1..1 { }0..1 a0..1", "a "),
+    ("{ }0..9 a1..1", "{ }0..9 a1..1 { }0..1", " " * 9 + "a"),
 )
 
 
@@ -331,7 +339,7 @@ def narrowed_least_uncommon(first, second, common):
     # What is the least text of a shape stays so when it is narrowed.
     if common[0] in (bound(first, False), bound(second, False)):
         return False
-    return all(bound(shape, False) != common[0] for shape in narrowed(first, second, EQUAL))
+    return all(bound(shape, False) != common[0] for shape in narrowed(first, second, EXACT))
 
 
 def one_ends_before(first, second, common):

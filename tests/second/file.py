@@ -5,18 +5,19 @@ and reads the book, and a regular expression for each kind of line.
 """
 
 import re
+from itertools import product
 from pathlib import Path
 
 from book import (
-    MOST_RULES, MOST_TEXTS, RULE_SIZE, SERIAL, book_of, four, hold_to_laws, join_book, random_book, run, shuffled,
-    wide_book,
+    MOST_RULES, MOST_TEXTS, PADDED, RULE_SIZE, SERIAL, book_of, four, hold_to_laws, join_book, random_book, run,
+    shuffled, wide_book,
 )
 from joins import JOIN
 from making import (
     LARGE_INPUT_ROOM, ONE_EACH, TWO_BAD, Dice, block, many_blocks, unsound_blocks, words_of, written,
 )
-from narrow import TOGETHER
-from pairs import AT_MOST, BEFORE, EQUAL, KINDS
+from narrow import TOGETHER, by_turns
+from pairs import AT_MOST, BEFORE, EQUAL, EQUALITIES, EXACT
 from shapes import MOST_BLOCKS, Refused, agree, total
 
 MOST_BYTES = 16_384
@@ -456,9 +457,10 @@ def shape_cases(cases):
 
 
 WRONG_RULES = (
-    (3, 1, 2), (4, 1, 2), (MOST_NUMBER, 1, 2), (256, 1, 2), (EQUAL, 0, 1), (AT_MOST, 1, 0), (BEFORE, 0, 0),
+    (3, 1, 2), (5, 1, 2), (MOST_NUMBER, 1, 2), (256, 1, 2), (EQUAL, 0, 1), (AT_MOST, 1, 0), (BEFORE, 0, 0),
     (EQUAL, 3, 1), (AT_MOST, 1, 3), (BEFORE, 3, 3), (EQUAL, MOST_NUMBER, 1), (BEFORE, 2, MOST_NUMBER),
-    (EQUAL, 257, 2), (EQUAL, 1, 258), (EQUAL, 1, 1), (AT_MOST, 2, 2), (BEFORE, 1, 1),
+    (EQUAL, 257, 2), (EQUAL, 1, 258), (EQUAL, 1, 1), (AT_MOST, 2, 2), (BEFORE, 1, 1), (EXACT, 0, 1), (EXACT, 1, 3),
+    (EXACT, 1, 1), (260, 1, 2), (6, 1, 2), (8, 1, 2),
 )
 
 
@@ -471,7 +473,7 @@ def rule_cases(cases):
     for place in range(1, MOST_RULES + 1):
         rule = WRONG_RULES[place % len(WRONG_RULES)]
         cases.book(texts, [(AT_MOST, 1, 2)] * (place - 1) + [rule] + [(7, 1, 2)] * (MOST_RULES - place))
-        cases.book(texts, [(KINDS[place % 3], 2, 1)] * (place - 1) + [(EQUAL, 2, 2)])
+        cases.book(texts, [(by_turns(place), 2, 1)] * (place - 1) + [(EQUAL, 2, 2)])
     # A rule is wrong even behind one that says none.
     none = [block(b"a", 1, 1), block(b"b", 1, 1)]
     cases.book(none, [(EQUAL, 1, 2), (EQUAL, 1, 1)])
@@ -489,7 +491,8 @@ WRONG_JOINS = (
     (JOIN, 1, 2, 0), (JOIN, 1, 2, 4), (JOIN, 1, 2, 9), (JOIN, 1, 2, MOST_NUMBER), (JOIN, 1, 2, 259), (JOIN, 1, 2, 1),
     (JOIN, 1, 2, 2), (JOIN, 1, 1, 2), (JOIN, 3, 3, 3), (JOIN, 0, 2, 3), (JOIN, 1, 0, 3), (JOIN, 4, 2, 3),
     (JOIN, 1, 4, 3), (EQUAL, 1, 2, 1), (EQUAL, 1, 2, 3), (AT_MOST, 1, 2, 3), (BEFORE, 1, 2, 3), (EQUAL, 1, 2, 256),
-    (BEFORE, 1, 2, MOST_NUMBER), (4, 1, 2, 3), (4, 1, 2, 0), (259, 1, 2, 3), (MOST_NUMBER, 1, 2, 3),
+    (BEFORE, 1, 2, MOST_NUMBER), (EXACT, 1, 2, 1), (EXACT, 1, 2, 3), (EXACT, 1, 2, 260), (5, 1, 2, 3), (259, 1, 2, 3),
+    (MOST_NUMBER, 1, 2, 3),
 )
 
 
@@ -535,6 +538,18 @@ def join_cases(cases):
     for number in range(40):
         texts, rules = join_book(dice, number % 2 == 0)
         cases.book(texts, rules)
+
+
+def padded_cases(cases):
+    """Padded fields: the books of which the answer is found by hand, and the two equalities in one small book."""
+    for texts, rules, _, _ in PADDED:
+        cases.book([written(text) for text in texts], rules)
+    for kind in (b"0", b"1", b"2", b"3", b"4", b"5", b"04", b"4.", b"-4", b"40", b""):
+        cases.file(EXAMPLE.replace(b"0 1 2 0\n", kind + b" 1 2 0\n"))
+    # The rule of document 01's book, its texts padded by turns.
+    for one, other in product(("", " { }3..3", " { }0..2"), repeat=2):
+        for kind in EQUALITIES:
+            cases.book([written("{a,b,c}0..3" + one), written("{b,c,d}2..2" + other)], [(kind, 1, 2)])
 
 
 def wrong_lines(line):
@@ -628,7 +643,7 @@ def changed_cases(cases):
         cases.file(EXAMPLE[:at])
         cases.file(EXAMPLE[at:])
         cases.file(EXAMPLE[:at] + EXAMPLE[at + 1 :])
-        for byte in b"09a \n\0\xff":
+        for byte in b"09a \n\0":
             if byte != EXAMPLE[at]:
                 cases.file(EXAMPLE[:at] + bytes([byte]) + EXAMPLE[at + 1 :])
     for at in range(len(EXAMPLE) + 1):
@@ -675,6 +690,7 @@ def all_cases():
     report_cases(cases)
     random_cases(cases)
     join_cases(cases)
+    padded_cases(cases)
     large_cases(cases)
     size_cases(cases)
     return cases.lines

@@ -13,7 +13,7 @@ from file import (
 )
 from joins import JOIN
 from making import ONE_EACH, block, written
-from pairs import AT_MOST, BEFORE, EQUAL
+from pairs import AT_MOST, BEFORE, EQUAL, EQUALITIES, EXACT
 from shapes import WORK_WANTED, Refused, agree
 
 # What the checking host has room for.
@@ -87,9 +87,10 @@ FEW_WORKS = (0, WORK_WANTED - 1, WORK_WANTED)
 
 
 def example_cases(cases):
-    """The books of examples/ and document 01's, with every length of both buffers."""
-    for book in (EXAMPLE, *example_files()):
-        cases.each(book, REPORTS, WORKS)
+    """Document 01's book with every length of both buffers, those of examples/ with some."""
+    cases.each(EXAMPLE, REPORTS, WORKS)
+    for book in example_files():
+        cases.each(book, FEW_REPORTS, FEW_WORKS)
     # A book whose rule says none, and one without rules.
     cases.each(file_of([written("a1..1"), written("b1..1")], [(EQUAL, 1, 2)]), REPORTS, WORKS)
     cases.each(file_of([GOOD], []), REPORTS, WORKS)
@@ -109,6 +110,8 @@ ALONE = (
     (11, file_of([GOOD, EMPTY], [(EQUAL, 1, 2)])),
     (3, file_of([GOOD, HEAVY * 2], [(EQUAL, 1, 2)])),
     (7, file_of([GOOD, GOOD], [(EQUAL, 1, 1)])),
+    (7, file_of([GOOD, GOOD], [(5, 1, 2)])),
+    (7, file_of([GOOD, GOOD], [(EXACT, 1, 2, 1)])),
     (12, file_of(LONG, [OVER])),
 )
 TOGETHER = (
@@ -128,7 +131,9 @@ TOGETHER = (
     (2, file_of([*LONG, CROSSED], [OVER])),
     (7, file_of(LONG, [(JOIN, 2, 2, 3)])),
     (7, file_of(LONG, [(EQUAL, 1, 1), OVER])),
+    (7, file_of(LONG, [(5, 1, 2), OVER])),
     (12, file_of(LONG, [OVER, (EQUAL, 1, 1)])),
+    (12, file_of(LONG, [(EXACT, 1, 2), OVER, (5, 1, 2)])),
 )
 
 
@@ -152,7 +157,7 @@ def size_cases(cases):
 
 
 def large_cases(cases):
-    """The longest report, the most blocks and rules, and a run of many applications."""
+    """The longest report, the most blocks and rules, the most blanks, and a run of many applications."""
     # 8 texts of 32 blocks, and as many counts of two digits as 250 characters allow.
     longest = [block([48 + number], 10, 10) * 25 + block((), 0, 0) * 7 for number in range(8)]
     cases.lent(file_of(longest, []), 20_000, 70_000)
@@ -164,6 +169,10 @@ def large_cases(cases):
         cases.lent(file_of([block(b"n", 0, most)] * 2, [(BEFORE, 1, 2)] * 15 + [(AT_MOST, 2, 1)]))
     shorter = [block(b"n", 0, 250), block(b"n", 0, 249), block(b"n", 1, 1)]
     cases.lent(file_of(shorter, [(JOIN, 1, 2, 3)] * 8 + [(AT_MOST, 1, 2)] * 8))
+    # Nothing but padding, in all texts, equal but for it and then to the last blank.
+    padding = [block(b" ", 250, 250), block(b" ", 0, 7) * 32, block((), 0, 0) * 32, *[block(b" n", 0, 250)] * 5]
+    for kind in EQUALITIES:
+        cases.lent(file_of(padding, [(EQUAL, number % 7 + 1, 8) for number in range(15)] + [(kind, 8, 3)]))
 
 
 def sampled_cases(cases):

@@ -8,7 +8,7 @@ back; between them lie the states of the whole at which the front may end and th
 from functools import lru_cache
 
 from pairs import (
-    EQUAL, FEW_FILLINGS, States, hull_of, hulls_by_text, meetings, narrowed_by_rows, rows_after, rows_before, rows_of,
+    EXACT, FEW_FILLINGS, States, hull_of, hulls_by_text, meetings, narrowed_by_rows, rows_after, rows_before, rows_of,
 )
 from shapes import Block, agree, fillings
 
@@ -106,16 +106,16 @@ def hold_to_laws(whole, front, back, result):
     if result is not None:
         agree("a join narrowed twice", trio, narrowed_by_cuts(*result), result)
     # The blocks of front and back laid end to end; they may be more than a lent shape has.
-    pair = narrowed_by_rows(whole, front + back, EQUAL)
+    pair = narrowed_by_rows(whole, front + back, EXACT)
     agree("a join as equality", trio, pair and (pair[0], pair[1][: len(front)], pair[1][len(front) :]), result)
     # Read from the end, the back comes first.
     mirrored = narrowed_by_cuts(*map(turned, (whole, back, front)))
     agree("a join from its end", trio, mirrored and tuple(turned(mirrored[at]) for at in (0, 2, 1)), result)
     # What is joined to nothing is equal.
     alone = narrowed_by_cuts(whole, front, NOTHING)
-    agree("a join to nothing", trio, alone and alone[:2], narrowed_by_rows(whole, front, EQUAL))
+    agree("a join to nothing", trio, alone and alone[:2], narrowed_by_rows(whole, front, EXACT))
     alone = narrowed_by_cuts(whole, NOTHING, back)
-    agree("a join to nothing", trio, alone and alone[::2], narrowed_by_rows(whole, back, EQUAL))
+    agree("a join to nothing", trio, alone and alone[::2], narrowed_by_rows(whole, back, EXACT))
 
 
 @lru_cache(maxsize=3000)

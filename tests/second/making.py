@@ -83,10 +83,10 @@ def written(shape):
     return words
 
 
-def many_blocks(count, total):
-    """A shape of so many blocks whose uppers add to `total`, bases by turns A and B."""
+def many_blocks(count, total, codes=b"AB"):
+    """A shape of so many blocks whose uppers add to `total`, bases by turns of one and of the other character."""
     uppers = [total // count + (number < total % count) for number in range(count)]
-    return [word for number, upper in enumerate(uppers) for word in block(b"A" if number % 2 == 0 else b"B", 0, upper)]
+    return [word for number, upper in enumerate(uppers) for word in block([codes[number % 2]], 0, upper)]
 
 
 # Blocks that are wrong in one, in two and in three ways at once, with the number that document 02, order 1, gives each.
@@ -188,6 +188,11 @@ def random_filling(dice, shape):
     return b"".join(random_text(dice, base, dice.between(lower, upper)) for base, lower, upper in shape)
 
 
+def padded_anew(dice, text, most):
+    """The text with blanks at its end, at most so many, in place of those that it has there."""
+    return (text.rstrip(b" ") + b" " * dice.pick((0, 1, dice.between(0, most), most)))[:MOST_CHARACTERS]
+
+
 # Mostly codes whose numbers are short to write.
 ALPHABETS = (
     (0, 1), (0, 1, 2), (64, 65), (64, 65, 66), (0, 1, 64, 65), b"ABCD", b"Nm", (62, 63, 64, 65), (0, 63, 64, 127),
@@ -203,8 +208,11 @@ def small_shape(dice):
     return codes, words
 
 
-def large_shape(dice):
-    codes = dice.pick((b"AB", b"ABC", b"ABCDEFGH", (0, 1, 2, 64, 65, 66), range(60, 70), range(128)))
+LARGE_ALPHABETS = (b"AB", b"ABC", b"ABCDEFGH", (0, 1, 2, 64, 65, 66), range(60, 70), range(128))
+
+
+def large_shape(dice, alphabets=LARGE_ALPHABETS):
+    codes = dice.pick(alphabets)
     count = dice.pick((3, 8, 16, 31, 32))
     return codes, shared_out(dice, codes, count, dice.pick((100, 200, 250)))
 
@@ -238,14 +246,25 @@ def carved(dice, codes, text, blocks):
     return words
 
 
-def small_pair(dice, most_fillings):
-    """Two shapes over one alphabet with few fillings, in every second pair with a common text."""
+SMALL_ALPHABETS = ((0, 1), (0, 1, 2), (0, 1, 2), (64, 65), (0, 64), (0, 1, 63, 64, 127))
+
+# With the blank: beside its neighbours, beside the code with its bit in the other number of a base, beside letters.
+PADDED_ALPHABETS = ((31, 32), (32, 33), (32, 96), (0, 32, 64), b" A", b" A", b" AB", b" AB")
+
+
+def same(text):
+    return text
+
+
+def small_pair(dice, most_fillings, alphabets=SMALL_ALPHABETS, changed=same):
+    """Two shapes over one alphabet with few fillings; every second time the other one takes a text of the first, as it
+    is or changed."""
     while True:
-        codes = dice.pick(((0, 1), (0, 1, 2), (0, 1, 2), (64, 65), (0, 64), (0, 1, 63, 64, 127)))
+        codes = dice.pick(alphabets)
         words = small_blocks(dice, codes)
         kind = dice.below(8)
         if kind < 4:
-            other = carved(dice, codes, random_filling(dice, shape_of(words)), dice.between(1, 4))
+            other = carved(dice, codes, changed(random_filling(dice, shape_of(words))), dice.between(1, 4))
         elif kind == 4:
             other = words
         else:
@@ -263,13 +282,13 @@ def small_blocks(dice, codes):
     return words
 
 
-def large_pair(dice):
-    """Two shapes with many characters; mostly they have a common text."""
-    codes, words = large_shape(dice)
-    text = random_filling(dice, shape_of(words))
+def large_pair(dice, alphabets=LARGE_ALPHABETS, changed=same):
+    """Two shapes with many characters; mostly the other one takes a text of the first, as it is or changed."""
+    codes, words = large_shape(dice, alphabets)
+    text = changed(random_filling(dice, shape_of(words)))
     kind = dice.below(6)
     if kind == 0:
-        other = large_shape(dice)[1]
+        other = large_shape(dice, alphabets)[1]
     elif kind == 1:
         other = words
     else:

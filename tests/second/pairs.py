@@ -1,15 +1,19 @@
-"""Exact narrowing of two shapes under equality, "at most" and "before".
+"""Exact narrowing of two shapes under both equalities, "at most" and "before".
 
-Two methods, held to each other. Where fillings are few, every pair of texts is looked at. Otherwise
-rows of bit sets over the states in which two fillings can be while their texts are still alike.
+Since document 02, order 5, a text may equal another once the blanks at the end of both are dropped, or to its
+last character. Two methods, held to each other. Where fillings are few, every pair of texts is looked at.
+Otherwise rows of bit sets over the states in which two fillings can be while their texts are still alike;
+where padding does not count, also over those in which one has ended and the other goes on over blanks.
 """
 
 from functools import lru_cache
 
 from bounds import bound
-from shapes import Block, agree, all_runs, fillings
+from shapes import BLANK, Block, agree, all_runs, fillings, total
 
-EQUAL, AT_MOST, BEFORE = KINDS = (0, 1, 2)
+# Equal once trailing blanks are dropped; at most; before; equal to the last character.
+EQUAL, AT_MOST, BEFORE, EXACT = KINDS = (0, 1, 2, 4)
+EQUALITIES = (EQUAL, EXACT)
 
 # Pairs of shapes with at most so many fillings each, and so many pairs, are settled by all of them.
 FEW_FILLINGS = 600
@@ -41,7 +45,8 @@ def merged(one, other):
 
 
 HOLDS = {
-    EQUAL: lambda one, other: one == other,
+    EQUAL: lambda one, other: one.rstrip(b" ") == other.rstrip(b" "),
+    EXACT: lambda one, other: one == other,
     # Python orders byte strings as 003 orders texts.
     AT_MOST: lambda one, other: one <= other,
     BEFORE: lambda one, other: one < other,
@@ -73,7 +78,8 @@ def hull_of_shape(shape):
 # are numbered in the order in which a filling goes through them, and the last one is the end. A row
 # belongs to a state of the first shape, its bits to the states of the second: both have read one text.
 # A relation is what may follow: both end; the first has the smaller or the greater next character,
-# the end counting as smaller than all, and then each goes on as it likes.
+# the end counting as smaller than all, and then each goes on as it likes. If it is padded, one that has
+# ended waits while the other goes on over blanks.
 
 
 class States:
@@ -107,6 +113,15 @@ class States:
                 row |= close
         return row
 
+    def padding(self):
+        """The states from where blanks alone, or nothing, lead to the end."""
+        row = 1 << self.end
+        for number in reversed(range(len(self.shape))):
+            start, next_block = self.start[number : number + 2]
+            if row >> next_block & 1:
+                row |= bits(start, next_block) if BLANK in self.shape[number].base else self.close[number]
+        return row
+
     def growing_where(self, test):
         """The states that can take a character, of the blocks that pass the test."""
         row = 0
@@ -121,34 +136,41 @@ def bits(start, end):
 
 
 class Relation:
-    def __init__(self, alike, smaller, greater):
-        self.alike, self.smaller, self.greater = alike, smaller, greater
+    def __init__(self, alike, smaller, greater, padded=False):
+        self.alike, self.smaller, self.greater, self.padded = alike, smaller, greater, padded
 
 
 # Of the first to the second, and of the second to the first.
 RELATIONS = {
-    EQUAL: (Relation(True, False, False), Relation(True, False, False)),
+    EQUAL: (Relation(True, False, False, padded=True),) * 2,
+    EXACT: (Relation(True, False, False),) * 2,
     AT_MOST: (Relation(True, True, False), Relation(True, False, True)),
     BEFORE: (Relation(False, True, False), Relation(False, False, True)),
 }
 
 
-def meetings(ours, others):
-    """For each block of ours the states of the others at which both can take one and the same character."""
-    return [others.growing_where(lambda other: not set(b.base).isdisjoint(other.base)) for b in ours.shape]
+def meetings(ours, others, padded=False):
+    """For each block of ours the states of the others at which both can take one and the same character, and those at
+    which ours can take a blank alone."""
+    found = []
+    for base, _, _ in ours.shape:
+        together = others.growing_where(lambda other: not set(base).isdisjoint(other.base))
+        found.append((together, 1 << others.end if padded and BLANK in base else 0))
+    return found
 
 
 def rows_before(ours, others, meets, rows):
     """The rows with all that one text more leads to: for each state of ours the states of the others."""
     rows = list(rows)
     for number, (_, lower, upper) in enumerate(ours.shape):
+        together, alone = meets[number]
         for count in range(upper + 1):
             at = ours.start[number] + count
             rows[at] = others.forward(rows[at])
             if count >= lower:
                 rows[ours.start[number + 1]] |= rows[at]
             if count < upper:
-                rows[at + 1] |= (rows[at] & meets[number]) << 1
+                rows[at + 1] |= (rows[at] & together) << 1 | rows[at] & alone
     rows[ours.end] = others.forward(rows[ours.end])
     return rows
 
@@ -159,12 +181,13 @@ def rows_after(ours, others, meets, rows):
     rows[ours.end] = others.backward(rows[ours.end])
     for number in reversed(range(len(ours.shape))):
         _, lower, upper = ours.shape[number]
+        together, alone = meets[number]
         for count in reversed(range(upper + 1)):
             at = ours.start[number] + count
             if count >= lower:
                 rows[at] |= rows[ours.start[number + 1]]
             if count < upper:
-                rows[at] |= rows[at + 1] >> 1 & meets[number]
+                rows[at] |= rows[at + 1] >> 1 & together | rows[at + 1] & alone
             rows[at] = others.backward(rows[at])
     return rows
 
@@ -176,7 +199,9 @@ def rows_of(ours, states, row):
 
 def rows_of_relation(ours, others, parts, relation):
     """For each state of ours the states of the others at which the relation comes about."""
-    end = (1 << others.end if relation.alike else 0) | (others.growing if relation.smaller else 0)
+    end = others.growing if relation.smaller else 0
+    if relation.alike:
+        end |= others.padding() if relation.padded else 1 << others.end
     rows = rows_of(ours, {ours.end}, end)
     for number, block in enumerate(ours.shape):
         for at in range(ours.start[number], ours.start[number] + block.upper):
@@ -210,7 +235,7 @@ def parting_characters(block, row, others, relation):
 def hull_by_rows(first, second, relation):
     """The first shape narrowed, or None."""
     ours, others = States(first), States(second)
-    meets = meetings(ours, others)
+    meets = meetings(ours, others, relation.padded)
     parts = [parted(b, others, relation) for b in first]
     before = rows_before(ours, others, meets, rows_of(ours, {0}, 1))
     after = rows_after(ours, others, meets, rows_of_relation(ours, others, parts, relation))
@@ -221,6 +246,7 @@ def hull_by_rows(first, second, relation):
     hull = []
     for number, block in enumerate(first):
         held, lengths = 0, []
+        _, alone = meets[number]
         for count in range(block.upper + 1):
             at = ours.start[number] + count
             if count >= block.lower:
@@ -238,6 +264,8 @@ def hull_by_rows(first, second, relation):
                 for mask, grow in zip(others.masks, others.grow):
                     if both & grow:
                         held |= ours.masks[number] & mask
+                if before[at] & after[at + 1] & alone:
+                    held |= 1 << BLANK
         codes = tuple(code for code in block.base if held >> code & 1)
         hull.append(Block(codes, min(lengths), max(lengths)))
     return tuple(hull)
@@ -262,10 +290,44 @@ def one_text(text):
     return tuple(Block((code,), 1, 1) for code in text) or (Block((), 0, 0),)
 
 
+def within(narrow, wide):
+    """Whether each block of a shape lies within that of another."""
+    return all({*a} <= {*b} and k <= l and u <= v for (a, l, u), (b, k, v) in zip(narrow, wide))
+
+
+def may_end_with_a_blank(shape):
+    """Whether some text of the shape ends with a blank."""
+    for base, lower, _ in reversed(shape):
+        if BLANK in base or lower:
+            return BLANK in base
+    return False
+
+
+def blanks(least, most):
+    return (Block((BLANK,), least, most),)
+
+
+def hold_padding_to_laws(first, second, result):
+    pair = first, second
+    exact = narrowed_by_rows(first, second, EXACT)
+    if exact is not None and (result is None or not all(map(within, exact, result))):
+        raise AssertionError(f"equal, but not once blanks are dropped: {pair} {exact} {result}")
+    if not any(map(may_end_with_a_blank, pair)):
+        agree("equality of what has no padding", pair, result, exact)
+    # As if behind each there might stand more blanks than the other has characters.
+    longer = narrowed(first + blanks(0, 1 + total(second)), second + blanks(0, 1 + total(first)), EXACT)
+    agree("padding as a block of blanks", pair, longer and tuple(shape[:-1] for shape in longer), result)
+    # Whatever padding stands behind a shape, it keeps its counts and changes nothing.
+    more = blanks(2, 3)
+    agree("more padding", pair, narrowed_by_rows(first + more, second, EQUAL), result and (result[0] + more, result[1]))
+
+
 def hold_to_laws(first, second, kind, result):
     if result is not None:
         agree("narrowing twice", (first, second), narrowed_by_rows(*result, kind), result)
     if kind == EQUAL:
+        hold_padding_to_laws(first, second, result)
+    if kind in EQUALITIES:
         turned = narrowed_by_rows(second, first, kind)
         agree("equality turned", (first, second), turned and turned[::-1], result)
     else:
@@ -275,7 +337,7 @@ def hold_to_laws(first, second, kind, result):
         other = narrowed_by_rows(least, second, kind)
         agree("order against a bound", (first, second), one and other and (one[0], other[1]), result)
     if kind == AT_MOST:
-        parts = (narrowed_by_rows(first, second, part) for part in (EQUAL, BEFORE))
+        parts = (narrowed_by_rows(first, second, part) for part in (EXACT, BEFORE))
         sides = zip(*(part for part in parts if part is not None))
         whole = tuple(hull_of(hull_of_shape(shape) for shape in side) for side in sides) or None
         agree("at most as equal or before", (first, second), whole, result)

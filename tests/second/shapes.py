@@ -8,6 +8,9 @@ MOST_BLOCKS = 32
 MOST_CHARACTERS = 250
 WORK_WANTED = 63_001
 
+# The character with which instruments pad a field: document 02, order 5.
+BLANK = 32
+
 # Shapes with at most so many fillings are settled by looking at every one of them.
 FEW_FILLINGS = 5000
 

@@ -6,7 +6,7 @@ from making import (
     NUMBER_FILLER, Dice, counted, edge_pairs, hexes, hold_lines_to_room, large_pair, lists_read, numbers_read,
     refused_pairs, small_pair, written,
 )
-from pairs import EQUAL, narrowed_by_rows
+from pairs import EXACT, narrowed_by_rows
 from shapes import Refused, agree, all_runs, fillings, pair_of, shape_of
 
 # Pairs of shapes with at most so many pairs of fillings are held to every one of them.
@@ -145,7 +145,7 @@ def swept(first, second):
     if few and fillings(first) * fillings(second) <= FEW_PAIRS:
         hold_to_fillings(first, second, found)
     elif found is None:
-        agree("cannot", (first, second), narrowed_by_rows(first, second, EQUAL), None)
+        agree("cannot", (first, second), narrowed_by_rows(first, second, EXACT), None)
     return found, looks
 
 
@@ -223,6 +223,11 @@ def picked_cases(cases):
         ("a1..1", "empty 0..0"),
         ("a0..1", "empty 0..0"),
         ("b0..1", "a0..1"),
+        # Blanks at the end are characters as all others.
+        ("{ }2..2", "empty 0..0"),
+        ("a1..1 { }4..4", "a1..1"),
+        ("a1..1 { }0..9", "{a, }3..3"),
+        ("{ }1..3 a1..1 { }2..2", "{ }0..1 a1..1 { }0..9"),
     ):
         cases.both(written(first), written(second))
 

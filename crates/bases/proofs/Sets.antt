@@ -100,7 +100,7 @@ in-second a b c h = bits-of bitOr or-shr or-mod a b c ∙ ap (λ (x : ℕ). bitO
 -- ---- whether two bases meet
 
 -- a base that is not the number 0 holds something
-some-held : (b : ℕ) → (b ≡ 0 → ⊥) → (c : ℕ) × Holds b c
+pub some-held : (b : ℕ) → (b ≡ 0 → ⊥) → (c : ℕ) × Holds b c
 unfolding Holds
 some-held = bin-ind (λ (b : ℕ). (b ≡ 0 → ⊥) → (c : ℕ) × Holds b c) (λ n. absurd (n refl)) step
   where

@@ -43,14 +43,25 @@ fn narrowed(answer: Narrowed) -> u64 {
 }
 
 #[no_mangle]
-pub extern "C" fn wedgeotter_equal(
+pub extern "C" fn wedgeotter_exact(
     x: &[u64],
     y: &[u64],
     work: &mut [u8],
     out_x: &mut [u64],
     out_y: &mut [u64],
 ) -> u64 {
-    narrowed(dashed::narrow_equal(x, y, work, out_x, out_y))
+    narrowed(dashed::narrow_exact(x, y, work, out_x, out_y))
+}
+
+#[no_mangle]
+pub extern "C" fn wedgeotter_padded(
+    x: &[u64],
+    y: &[u64],
+    work: &mut [u8],
+    out_x: &mut [u64],
+    out_y: &mut [u64],
+) -> u64 {
+    narrowed(dashed::narrow_padded(x, y, work, out_x, out_y))
 }
 
 #[no_mangle]

@@ -1,4 +1,5 @@
--- Document 01, "A book and its run", and document 02, order 3: a rule is (kind, a, b, c): 0 equal, 1 a at most b, 2 a before b, 3 a is b followed by c.
+-- Document 01, "A book and its run", and document 02, orders 3 and 5: a rule is (kind, a, b, c): 0 a equals b once trailing blanks are dropped, 1 a at most b, 2 a before b,
+-- 3 a is b followed by c, 4 a equals b to the letter.
 use mathlib.Core.Path.{_≡_}
 use mathlib.Core.List.{List, _++_}
 use Prim.Native.Nat.{ℕ, _+_, _≤_, _<_}

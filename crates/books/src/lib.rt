@@ -165,7 +165,7 @@ fn right_fourth(counts: &[u64], rule: Rule) -> bool
 fn right_rule(counts: &[u64], rule: Rule) -> bool
     ensures { λ r. ⌜ Tells r (RightRule (now (counts .entry)) rule) ⌝ }
 {
-    if 3 < rule.kind {
+    if 4 < rule.kind {
         return false;
     }
     if !names(counts, rule.a) {

@@ -9,8 +9,7 @@ ghost use Rattle.shapes.specs.Lent.{Whole, meant};
 ghost use Rattle.rows.specs.Row.{rowIn, rowCount, tableSize};
 ghost use Rattle.rows.specs.Steps.{InTurn};
 ghost use Rattle.row_paths.specs.Laid.{Laid};
-ghost use Rattle.equal_back.specs.Back.{Whenever};
-ghost use Rattle.common_back.specs.Back.{BlockKept, RowsAfter, EndRows};
+ghost use Rattle.common_back.specs.Back.{Whenever, BlockKept, RowsAfter, EndRows};
 
 // The rows of the block b from position p on, where s is the row at its end; gives that at p.
 fn back_block(

@@ -12,7 +12,7 @@ use Rattle.shapes.specs.Lent.{Whole, shapeOf, blockAt}
 use Rattle.rests.specs.Walk.{Walk, here, skip, slotAt}
 use Rattle.rests.proofs.Walks.{walk-append, walk-to, walk-text, path-of}
 use Rattle.rests.proofs.Laid.{slots, bounded}
-use Rattle.rests.proofs.Tight.{filling-walk, walk-fits}
+use Rattle.rests.proofs.Fillings.{filling-walk, walk-fits}
 use Rattle.rows.specs.Row.{rowIn}
 use Rattle.rows.specs.Steps.{Leads, Matched}
 use Rattle.row_paths.specs.Laid.{Laid}

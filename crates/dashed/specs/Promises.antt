@@ -22,6 +22,7 @@ use Rattle.joins.specs.Join.{JoinPromise}
 use Rattle.pairs.specs.Narrow.{NarrowPromise}
 use Rattle.shapes.specs.Lent.{ShapeChecked}
 use Rattle.texts.specs.Order.{AtMost, Before}
+use Rattle.texts.specs.Padding.{Padded}
 
 -- check a shape: sound, or the one refusal that is due
 abbrev pub CheckShape : List ℕ → Checked → Type 0
@@ -47,9 +48,13 @@ GreatestText xs out out′ r = ExtremePromise Greatest xs out out′ r
 abbrev pub Sweep : List ℕ → List ℕ → List ℕ → List ℕ → Swept → Type 0
 Sweep xs ys out out′ r = SweepPromise xs ys out out′ r
 
--- narrowing under equality: lent xs and ys, work, and two outputs ox and oy; with ′ they are as handed back
-abbrev pub NarrowEqual : List ℕ → List ℕ → List ℕ → List ℕ → List ℕ → List ℕ → List ℕ → List ℕ → Narrowed → Type 0
-NarrowEqual xs ys work ox oy work′ ox′ oy′ r = NarrowPromise (λ t u. t ≡ u) xs ys work ox oy work′ ox′ oy′ r
+-- narrowing under equality once trailing blanks are dropped (document 02, order 5): lent xs and ys, work, and two outputs ox and oy; with ′ they are as handed back
+abbrev pub NarrowPadded : List ℕ → List ℕ → List ℕ → List ℕ → List ℕ → List ℕ → List ℕ → List ℕ → Narrowed → Type 0
+NarrowPadded xs ys work ox oy work′ ox′ oy′ r = NarrowPromise Padded xs ys work ox oy work′ ox′ oy′ r
+
+-- the same under equality to the letter
+abbrev pub NarrowExact : List ℕ → List ℕ → List ℕ → List ℕ → List ℕ → List ℕ → List ℕ → List ℕ → Narrowed → Type 0
+NarrowExact xs ys work ox oy work′ ox′ oy′ r = NarrowPromise (λ t u. t ≡ u) xs ys work ox oy work′ ox′ oy′ r
 
 -- the same under "at most" and "before"
 abbrev pub NarrowAtMost : List ℕ → List ℕ → List ℕ → List ℕ → List ℕ → List ℕ → List ℕ → List ℕ → Narrowed → Type 0

@@ -7,7 +7,7 @@ use answers::Ran;
 use answers::Shown;
 use answers::Swept;
 use answers::Written;
-ghost use Rattle.dashed.specs.Promises.{CheckShape, FitsShape, Earlier, LeastText, GreatestText, Sweep, NarrowEqual, NarrowAtMost, NarrowBefore, NarrowJoin, CommonText, RunBook, RunFile, RunHost};
+ghost use Rattle.dashed.specs.Promises.{CheckShape, FitsShape, Earlier, LeastText, GreatestText, Sweep, NarrowPadded, NarrowExact, NarrowAtMost, NarrowBefore, NarrowJoin, CommonText, RunBook, RunFile, RunHost};
 
 // Checks a shape, lent as 64-bit numbers, four to a block.
 pub fn check_shape(shape: &[u64]) -> Checked
@@ -52,22 +52,41 @@ pub fn sweep(x: &[u64], y: &[u64], out: &mut [u64]) -> Swept
     sweep_calls::sweep(x, y, out)
 }
 
-// Exact narrowing under equality: none exactly if no filling of x and filling of y have one text; otherwise each block of the outputs keeps exactly the
-// characters, and the least and greatest count, that some such pair gives it. It takes a work buffer of at least 63,001 bytes.
-pub fn narrow_equal(
+// Exact narrowing under equality of fields, a rule's kind 0: the texts are equal once trailing blanks are dropped from both. None exactly if no filling of x and
+// filling of y have two such texts; otherwise each block of the outputs keeps exactly the characters, and the least and greatest count, that some such pair gives it.
+// It takes a work buffer of at least 63,001 bytes.
+//
+// Take this one unless you know better: instruments pad their fields, and every reader in the trade drops the padding, so that two lines which differ in it alone are
+// read as one. The sweep's "cannot" is about texts that are equal to the letter and is no ground for a none here.
+pub fn narrow_padded(
     x: &[u64],
     y: &[u64],
     work: &mut [u8],
     out_x: &mut [u64],
     out_y: &mut [u64],
 ) -> Narrowed
-    ensures { λ r. ⌜ NarrowEqual (now (x .entry)) (now (y .entry)) (now (work .entry)) (now («out_x» .entry)) (now («out_y» .entry))
+    ensures { λ r. ⌜ NarrowPadded (now (x .entry)) (now (y .entry)) (now (work .entry)) (now («out_x» .entry)) (now («out_y» .entry))
         (now (work .exit)) (now («out_x» .exit)) (now («out_y» .exit)) r ⌝ }
 {
     kinds::narrow(0, x, y, work, out_x, out_y)
 }
 
-// The same over the pairs in which the text of x is at most that of y.
+// The same to the letter, a rule's kind 4: over the pairs of fillings with one and the same text. It is for files of which every byte counts, and it is what the sweep,
+// the earliest common text and the join are about.
+pub fn narrow_exact(
+    x: &[u64],
+    y: &[u64],
+    work: &mut [u8],
+    out_x: &mut [u64],
+    out_y: &mut [u64],
+) -> Narrowed
+    ensures { λ r. ⌜ NarrowExact (now (x .entry)) (now (y .entry)) (now (work .entry)) (now («out_x» .entry)) (now («out_y» .entry))
+        (now (work .exit)) (now («out_x» .exit)) (now («out_y» .exit)) r ⌝ }
+{
+    kinds::narrow(4, x, y, work, out_x, out_y)
+}
+
+// The same over the pairs in which the text of x is at most that of y, blanks counting as any character.
 pub fn narrow_at_most(
     x: &[u64],
     y: &[u64],

@@ -39,7 +39,9 @@ unfolding relationOf
 call-narrows zero xs ys work ox oy work′ ox′ oy′ r p = (λ (e : _≡_ {A = ℕ} 0 3). omega arith, p)
 call-narrows (suc zero) xs ys work ox oy work′ ox′ oy′ r p = (λ (e : _≡_ {A = ℕ} 1 3). omega arith, p)
 call-narrows (suc (suc zero)) xs ys work ox oy work′ ox′ oy′ r p = (λ (e : _≡_ {A = ℕ} 2 3). omega arith, p)
-call-narrows (suc (suc (suc k))) xs ys work ox oy work′ ox′ oy′ r p = absurd p
+call-narrows (suc (suc (suc zero))) xs ys work ox oy work′ ox′ oy′ r p = absurd p
+call-narrows (suc (suc (suc (suc zero)))) xs ys work ox oy work′ ox′ oy′ r p = (λ (e : _≡_ {A = ℕ} 4 3). omega arith, p)
+call-narrows (suc (suc (suc (suc (suc k))))) xs ys work ox oy work′ ox′ oy′ r p = absurd p
 
 narrows-call : (k : ℕ) → OfTwo k → (xs ys work ox oy work′ ox′ oy′ : List ℕ) (r : Narrowed) → NarrowPromise (relationOf k) xs ys work ox oy work′ ox′ oy′ r
     → CallOf k xs ys work ox oy work′ ox′ oy′ r
@@ -47,7 +49,9 @@ unfolding relationOf
 narrows-call zero h xs ys work ox oy work′ ox′ oy′ r p = p
 narrows-call (suc zero) h xs ys work ox oy work′ ox′ oy′ r p = p
 narrows-call (suc (suc zero)) h xs ys work ox oy work′ ox′ oy′ r p = p
-narrows-call (suc (suc (suc k))) h xs ys work ox oy work′ ox′ oy′ r p = absurd (let most = h .known in let no-join = h .no-join in omega arith)
+narrows-call (suc (suc (suc zero))) h xs ys work ox oy work′ ox′ oy′ r p = absurd (h .no-join refl)
+narrows-call (suc (suc (suc (suc zero)))) h xs ys work ox oy work′ ox′ oy′ r p = p
+narrows-call (suc (suc (suc (suc (suc k))))) h xs ys work ox oy work′ ox′ oy′ r p = absurd (let most = h .known in omega arith)
 
 module _ {counts xs : List ℕ} (d : Standing counts xs) (t : Rule) (right : RightRule counts t) where
   -- ---- from a call to an application

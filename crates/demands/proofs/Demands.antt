@@ -12,6 +12,7 @@ use Rattle.extremes.specs.Steps.{extreme}
 use Rattle.shapes.specs.Shape.{Block}
 use Rattle.shapes.specs.Lent.{shapeOf}
 use Rattle.texts.specs.Order.{AtMost, Before}
+use Rattle.texts.specs.Padding.{Padded}
 use Rattle.pairs.specs.Narrow.{NarrowPromise}
 use Rattle.joins.proofs.Determined.{join-determined}
 use Rattle.common_calls.proofs.Common.{common-one}
@@ -49,7 +50,8 @@ demand-1 = record {
   book-untouched = λ counts blocks rules work blocks′ work′ q p. (p .1, p .2);
   file-untouched = λ file report report′ q p. p .1;
   host-untouched = λ book report work report′ work′ q p. let r = host-refused book report work report′ work′ q p in (r .1 .0 .1, r .1 .1);
-  equal = narrowing-refuses (λ t u. t ≡ u);
+  padded = narrowing-refuses Padded;
+  exact = narrowing-refuses (λ t u. t ≡ u);
   at-most = narrowing-refuses AtMost;
   before = narrowing-refuses Before;
   check-shape-one = check-shape-determined;
@@ -109,7 +111,8 @@ demand-2 = record {
   fits-no = λ xs t p. p .1;
   least = λ n p. let m = meant Least n p in (m .fits, λ u f. at-most-all (m .first u f));
   greatest = λ n p. let m = meant Greatest n p in (m .fits, λ u f. at-least-all (m .first u f));
-  equal = exact (λ t u. t ≡ u);
+  padded = exact Padded;
+  exact = exact (λ t u. t ≡ u);
   at-most = exact AtMost;
   before = exact Before;
   join = exact-join;

@@ -9,3 +9,4 @@ pub mod Demands
 pub mod Requests
 pub mod Request3
 pub mod Request4
+pub mod Request5

@@ -28,7 +28,7 @@ use Rattle.books.specs.Refused.BookRefused.{wrong-rule}
 use Rattle.books.specs.Refused.RuleRefused.{wrong, too-long}
 use Rattle.books.proofs.Tell.{first-rule}
 use Rattle.books.proofs.Fourth.{third-named, third-not-first, third-not-second, fourth-zero}
-use Rattle.dashed.specs.Promises.{NarrowEqual, NarrowJoin}
+use Rattle.dashed.specs.Promises.{NarrowExact, NarrowJoin}
 use Rattle.demands.specs.Requests.{Request3}
 use Rattle.demands.proofs.Exact.{written-words}
 use Rattle.demands.proofs.Joined.{Same, pair-none, pair-hull, keeps-triples, keeps-three, joined-shapes}
@@ -96,19 +96,19 @@ module _ {xs ys zs : List ℕ} (ok : JoinAccepted xs ys zs) where
   join-pair {H} h = line-pairs (λ (S : List Block). Hull (Pairs Same (length (shapeOf xs))) S H) h
 
 module _ (xs ys zs work ox oy oz work′ ox′ oy′ oz′ work₁ ox₁ ol work₁′ ox₁′ ol′ : List ℕ) where
-  none-there : (s : Narrowed) → NarrowJoin xs ys zs work ox oy oz work′ ox′ oy′ oz′ Narrowed.None → NarrowEqual xs (ys ++ zs) work₁ ox₁ ol work₁′ ox₁′ ol′ s
+  none-there : (s : Narrowed) → NarrowJoin xs ys zs work ox oy oz work′ ox′ oy′ oz′ Narrowed.None → NarrowExact xs (ys ++ zs) work₁ ox₁ ol work₁′ ox₁′ ol′ s
       → PairAccepted xs (ys ++ zs) × Room xs (ys ++ zs) (length work₁) (length ox₁) (length ol) → s ≡ Narrowed.None
   none-there Narrowed.Narrow p q a = absurd (hull-or-none (q .1 .hull) (line-pairs (p .0 .shapes) (None (Pairs Same (length (shapeOf xs)))) (pair-none (shapeOf xs) (shapeOf ys) (shapeOf zs) (p .1 .none))))
   none-there Narrowed.None p q a = refl
   none-there (Narrowed.Refused r) p q a = absurd (narrow-not (q .0) (a .0) (a .1))
 
-  none-here : (r : Narrowed) → NarrowJoin xs ys zs work ox oy oz work′ ox′ oy′ oz′ r → NarrowEqual xs (ys ++ zs) work₁ ox₁ ol work₁′ ox₁′ ol′ Narrowed.None
+  none-here : (r : Narrowed) → NarrowJoin xs ys zs work ox oy oz work′ ox′ oy′ oz′ r → NarrowExact xs (ys ++ zs) work₁ ox₁ ol work₁′ ox₁′ ol′ Narrowed.None
       → JoinAccepted xs ys zs × JoinRoom xs ys zs (length work) (length ox) (length oy) (length oz) → r ≡ Narrowed.None
   none-here Narrowed.Narrow p q a = absurd (hull-or-none (join-pair (p .0 .shapes) (pair-hull (shapeOf xs) (shapeOf ys) (shapeOf zs) (p .1 .hull))) (q .1 .none))
   none-here Narrowed.None p q a = refl
   none-here (Narrowed.Refused r) p q a = absurd (join-refused-not (p .0) (a .0) (a .1))
 
-  same-numbers : NarrowJoin xs ys zs work ox oy oz work′ ox′ oy′ oz′ Narrowed.Narrow → NarrowEqual xs (ys ++ zs) work₁ ox₁ ol work₁′ ox₁′ ol′ Narrowed.Narrow
+  same-numbers : NarrowJoin xs ys zs work ox oy oz work′ ox′ oy′ oz′ Narrowed.Narrow → NarrowExact xs (ys ++ zs) work₁ ox₁ ol work₁′ ox₁′ ol′ Narrowed.Narrow
       → (take (length xs) ox′ ≡ take (length xs) ox₁′) × (take (length ys) oy′ ++ take (length zs) oz′ ≡ take (length (ys ++ zs)) ol′)
   same-numbers p q =
       let ok = p .0 .shapes in
@@ -147,7 +147,7 @@ request3 = record {
   from-first = from-first;
   as-equality-none = λ xs ys zs work ox oy oz work′ ox′ oy′ oz′ work₁ ox₁ ol work₁′ ox₁′ ol′ r s p q here there. (
     λ e. none-there xs ys zs work ox oy oz work′ ox′ oy′ oz′ work₁ ox₁ ol work₁′ ox₁′ ol′ s (subst (NarrowJoin xs ys zs work ox oy oz work′ ox′ oy′ oz′) e p) q there,
-    λ e. none-here xs ys zs work ox oy oz work′ ox′ oy′ oz′ work₁ ox₁ ol work₁′ ox₁′ ol′ r p (subst (NarrowEqual xs (ys ++ zs) work₁ ox₁ ol work₁′ ox₁′ ol′) e q) here,
+    λ e. none-here xs ys zs work ox oy oz work′ ox′ oy′ oz′ work₁ ox₁ ol work₁′ ox₁′ ol′ r p (subst (NarrowExact xs (ys ++ zs) work₁ ox₁ ol work₁′ ox₁′ ol′) e q) here,
   );
   as-equality = λ p q. same-numbers _ _ _ _ _ _ _ _ _ _ _ _ _ _ _ _ _ p q;
 }

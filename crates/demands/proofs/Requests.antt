@@ -20,7 +20,7 @@ use Rattle.pairs.proofs.Pair.{narrow-not}
 use Rattle.common_texts.specs.Earliest.{Earliest}
 use Rattle.common_calls.specs.Common.{ShowRoom}
 use Rattle.common_calls.proofs.Common.{show-refused-not, earliest-one}
-use Rattle.dashed.specs.Promises.{LeastText, NarrowEqual, CommonText}
+use Rattle.dashed.specs.Promises.{LeastText, NarrowExact, CommonText}
 use Rattle.demands.specs.Requests.{Request2}
 use Rattle.demands.proofs.Demands.{demand-2, written}
 use Rattle.demands.proofs.Exact.{none-texts, some-texts, keeps-texts, narrowed-shapes}
@@ -52,28 +52,28 @@ module _ {xs ys work out work′ out′ : List ℕ} (n : ℕ) (p : CommonText xs
 -- ---- .. beside narrowing
 
 module _ (xs ys work out work′ out′ work₁ ox oy work₁′ ox′ oy′ : List ℕ) where
-  not-both : (n : ℕ) → CommonText xs ys work out work′ out′ (Shown.Text n) → NarrowEqual xs ys work₁ ox oy work₁′ ox′ oy′ Narrowed.None → ⊥
+  not-both : (n : ℕ) → CommonText xs ys work out work′ out′ (Shown.Text n) → NarrowExact xs ys work₁ ox oy work₁′ ox′ oy′ Narrowed.None → ⊥
   not-both n p q =
       let t = shown-earliest n p in none-texts (λ t u. t ≡ u) (shapeOf xs) (shapeOf ys) (q .1 .none) _ _ (t .fits-first) (t .fits-second) refl
 
-  not-neither : CommonText xs ys work out work′ out′ Shown.None → NarrowEqual xs ys work₁ ox oy work₁′ ox′ oy′ Narrowed.Narrow → ⊥
+  not-neither : CommonText xs ys work out work′ out′ Shown.None → NarrowExact xs ys work₁ ox oy work₁′ ox′ oy′ Narrowed.Narrow → ⊥
   not-neither p q =
       let t = some-texts (λ t u. t ≡ u) (shapeOf xs) (shapeOf ys) (q .1 .hull) in
       p .1 .nothing .none (t .1) (subst (Fits (shapeOf xs)) (t .4) (t .2)) (t .3)
 
-  none-there : (s : Narrowed) → CommonText xs ys work out work′ out′ Shown.None → NarrowEqual xs ys work₁ ox oy work₁′ ox′ oy′ s
+  none-there : (s : Narrowed) → CommonText xs ys work out work′ out′ Shown.None → NarrowExact xs ys work₁ ox oy work₁′ ox′ oy′ s
       → Room xs ys (length work₁) (length ox) (length oy) → s ≡ Narrowed.None
   none-there Narrowed.Narrow p q room = absurd (not-neither p q)
   none-there Narrowed.None p q room = refl
   none-there (Narrowed.Refused r) p q room = absurd (narrow-not (q .0) (p .0 .shapes) room)
 
-  none-here : (r : Shown) → CommonText xs ys work out work′ out′ r → NarrowEqual xs ys work₁ ox oy work₁′ ox′ oy′ Narrowed.None
+  none-here : (r : Shown) → CommonText xs ys work out work′ out′ r → NarrowExact xs ys work₁ ox oy work₁′ ox′ oy′ Narrowed.None
       → ShowRoom (length work) (length out) → r ≡ Shown.None
   none-here (Shown.Text n) p q room = absurd (not-both n p q)
   none-here Shown.None p q room = refl
   none-here (Shown.Refused r) p q room = absurd (show-refused-not (p .0) (q .0 .shapes) room)
 
-  fits-narrowed : (n : ℕ) → CommonText xs ys work out work′ out′ (Shown.Text n) → NarrowEqual xs ys work₁ ox oy work₁′ ox′ oy′ Narrowed.Narrow
+  fits-narrowed : (n : ℕ) → CommonText xs ys work out work′ out′ (Shown.Text n) → NarrowExact xs ys work₁ ox oy work₁′ ox′ oy′ Narrowed.Narrow
       → Fits (shapeOf (take (length xs) ox′)) (take n out′) × Fits (shapeOf (take (length ys) oy′)) (take n out′)
   fits-narrowed n p q =
       let t = shown-earliest n p in
@@ -106,7 +106,7 @@ request2 = record {
   empty-first = λ n p. empty-first n p;
   none-exactly = λ xs ys work out work′ out′ work₁ ox oy work₁′ ox′ oy′ r s p q here there. (
     λ e. none-there xs ys work out work′ out′ work₁ ox oy work₁′ ox′ oy′ s (subst (CommonText xs ys work out work′ out′) e p) q there,
-    λ e. none-here xs ys work out work′ out′ work₁ ox oy work₁′ ox′ oy′ r p (subst (NarrowEqual xs ys work₁ ox oy work₁′ ox′ oy′) e q) here,
+    λ e. none-here xs ys work out work′ out′ work₁ ox oy work₁′ ox′ oy′ r p (subst (NarrowExact xs ys work₁ ox oy work₁′ ox′ oy′) e q) here,
   );
   given = λ n p. (shown-length n p, shown-short n p, shown-rest n p);
   nothing = λ p. p .1 .kept;

@@ -18,6 +18,7 @@ use Rattle.answers.specs.declared.Written.{Written}
 use Rattle.shapes.specs.Shape.{Block, Filling, textOf, Fits, noBlock}
 use Rattle.shapes.specs.Lent.{Numbers, shapeOf, wordsOf, Accepted, ShapeRefused}
 use Rattle.texts.specs.Order.{AtMost, Before}
+use Rattle.texts.specs.Padding.{Padded}
 use Rattle.hulls.specs.Hull.{Tight}
 use Rattle.hulls.specs.Book.{Within, Stable}
 use Rattle.pairs.specs.Pair.{PairAccepted, Room, NarrowRefused}
@@ -34,7 +35,7 @@ use Rattle.file_lines.specs.Book.{Book}
 use Rattle.files.specs.Departs.{FileAccepted}
 use Rattle.file_runs.specs.Promise.{RunRefused}
 use Rattle.host_calls.specs.Host.{negated}
-use Rattle.dashed.specs.Promises.{CheckShape, FitsShape, Earlier, LeastText, GreatestText, Sweep, NarrowEqual, NarrowAtMost, NarrowBefore, NarrowJoin, CommonText, RunBook, RunFile, RunHost}
+use Rattle.dashed.specs.Promises.{CheckShape, FitsShape, Earlier, LeastText, GreatestText, Sweep, NarrowPadded, NarrowExact, NarrowAtMost, NarrowBefore, NarrowJoin, CommonText, RunBook, RunFile, RunHost}
 use Rattle.demands.specs.Calls.{LeftAlone, none, numbers, Ending, Calls, InOrder, WidestLeft, Choice}
 
 -- ---- demand 1
@@ -98,8 +99,9 @@ pub record Demand1 : Type 1 where
       → (blocks′ ≡ blocks) × (work′ ≡ work)
   pub file-untouched : (file report report′ : List ℕ) (q : Refusal) → RunFile file report report′ (Written.Refused q) → report′ ≡ report
   pub host-untouched : (book report work report′ work′ : List ℕ) (q : Refusal) → RunHost book report work report′ work′ (negated q) → (report′ ≡ report) × (work′ ≡ work)
-  -- both, and the next, of the three narrowings
-  pub equal : NarrowingRefuses NarrowEqual
+  -- both, and the next, of the four narrowings of two texts
+  pub padded : NarrowingRefuses NarrowPadded
+  pub exact : NarrowingRefuses NarrowExact
   pub at-most : NarrowingRefuses NarrowAtMost
   pub before : NarrowingRefuses NarrowBefore
   -- for one input there is one outcome: the answer with its count or refusal, and every lent cell
@@ -181,8 +183,9 @@ pub record Demand2 : Type 0 where
       → Fits (shapeOf xs) (take n out′) × ((u : List ℕ) → Fits (shapeOf xs) u → AtMost (take n out′) u)
   pub greatest : {xs out out′ : List ℕ} (n : ℕ) → GreatestText xs out out′ (Written.Text n)
       → Fits (shapeOf xs) (take n out′) × ((u : List ℕ) → Fits (shapeOf xs) u → AtMost u (take n out′))
-  -- "For equality and both orders .."
-  pub equal : Exact (λ t u. t ≡ u) NarrowEqual
+  -- "For equality and both orders ..": equality once trailing blanks are dropped, and equality to the letter (document 02, order 5)
+  pub padded : Exact Padded NarrowPadded
+  pub exact : Exact (λ t u. t ≡ u) NarrowExact
   pub at-most : Exact AtMost NarrowAtMost
   pub before : Exact Before NarrowBefore
   -- and for joins

@@ -4,7 +4,7 @@ use mathlib.Core.List.{List, [], _∷_, _++_}
 use mathlib.Core.Logic.{_⊎_, _↔_}
 use Prim.Native.Nat.{ℕ, _+_, _≤_, _<_}
 use lib.IntN.{ℤ, pos, negℤ}
-use lib.ListN.{length, take, drop}
+use lib.ListN.{length, take, drop, replicate}
 use Rattle.answers.specs.Told.{tell, told}
 use Rattle.answers.specs.declared.Refusal.{Refusal}
 use Rattle.answers.specs.declared.Narrowed.{Narrowed}
@@ -13,9 +13,11 @@ use Rattle.answers.specs.declared.Written.{Written}
 use Rattle.shapes.specs.Shape.{Fits, total}
 use Rattle.shapes.specs.Lent.{shapeOf, wordsOf}
 use Rattle.texts.specs.Order.{AtMost}
+use Rattle.texts.specs.Padding.{blank, trimmed, Padded, BlanksBehind}
 use Rattle.texts.specs.Kind.{relationOf, joinKind}
 use Rattle.rules.specs.declared.Rule.{Rule}
-use Rattle.rules.specs.Rule.{ruleAt, ruleCount, numbersOfAll}
+use Rattle.rules.specs.Rule.{ruleAt, ruleCount, ruleWith, numbersOfAll}
+use Rattle.hulls.specs.Book.{Within}
 use Rattle.pairs.specs.Pair.{PairAccepted, Room}
 use Rattle.pairs.specs.Narrow.{Cleared}
 use Rattle.joins.specs.Refused.{JoinAccepted, JoinRoom}
@@ -28,7 +30,7 @@ use Rattle.files.specs.Departs.{FileAccepted}
 use Rattle.file_runs.specs.Ends.{FileEnds}
 use Rattle.file_runs.specs.Promise.{Report}
 use Rattle.host_calls.specs.Host.{negated, handed}
-use Rattle.dashed.specs.Promises.{LeastText, NarrowEqual, NarrowJoin, CommonText, RunFile, RunHost}
+use Rattle.dashed.specs.Promises.{LeastText, NarrowPadded, NarrowExact, NarrowJoin, CommonText, RunFile, RunHost}
 
 -- ---- order 2
 
@@ -48,7 +50,7 @@ pub record Request2 : Type 0 where
   pub empty-first : {xs ys work out work′ out′ : List ℕ} (n : ℕ) → CommonText xs ys work out work′ out′ (Shown.Text n) → Fits (shapeOf xs) [] → Fits (shapeOf ys) [] → n ≡ 0
   -- "'None' exactly as in narrowing under equality", whatever memory is lent to the two calls, as long as there is room
   pub none-exactly : (xs ys work out work′ out′ work₁ ox oy work₁′ ox′ oy′ : List ℕ) (r : Shown) (s : Narrowed)
-      → CommonText xs ys work out work′ out′ r → NarrowEqual xs ys work₁ ox oy work₁′ ox′ oy′ s
+      → CommonText xs ys work out work′ out′ r → NarrowExact xs ys work₁ ox oy work₁′ ox′ oy′ s
       → ShowRoom (length work) (length out) → Room xs ys (length work₁) (length ox) (length oy) → (r ≡ Shown.None) ↔ (s ≡ Narrowed.None)
   -- "It and its length are given as for the least text": at the start of the output, of which the rest stays, and never over the 250 bytes asked for
   pub given : {xs ys work out work′ out′ : List ℕ} (n : ℕ) → CommonText xs ys work out work′ out′ (Shown.Text n)
@@ -60,7 +62,7 @@ pub record Request2 : Type 0 where
   pub zeroed-none : {xs ys work out work′ out′ : List ℕ} → CommonText xs ys work out work′ out′ Shown.None → Cleared work work′
   -- what is shown is an example of what narrowing leaves: it fits both narrowed shapes
   pub fits-narrowed : {xs ys work out work′ out′ work₁ ox oy work₁′ ox′ oy′ : List ℕ} (n : ℕ) → CommonText xs ys work out work′ out′ (Shown.Text n)
-      → NarrowEqual xs ys work₁ ox oy work₁′ ox′ oy′ Narrowed.Narrow
+      → NarrowExact xs ys work₁ ox oy work₁′ ox′ oy′ Narrowed.Narrow
       → Fits (shapeOf (take (length xs) ox′)) (take n out′) × Fits (shapeOf (take (length ys) oy′)) (take n out′)
   -- a shape and itself: there is a common text, and the earliest is the least text
   pub same-least : {xs work out work′ out′ out₁ out₁′ : List ℕ} (n m : ℕ) → CommonText xs xs work out work′ out′ (Shown.Text n) → LeastText xs out₁ out₁′ (Written.Text m)
@@ -98,10 +100,10 @@ pub record Request3 : Type 0 where
   -- a join is exact equality with the line that b's blocks make with c's behind them, where that is a shape: the same none, and the same numbers. To the call for
   -- equality other memory is lent, work₁, ox₁ and ol
   pub as-equality-none : (xs ys zs work ox oy oz work′ ox′ oy′ oz′ work₁ ox₁ ol work₁′ ox₁′ ol′ : List ℕ) (r s : Narrowed) → NarrowJoin xs ys zs work ox oy oz work′ ox′ oy′ oz′ r
-      → NarrowEqual xs (ys ++ zs) work₁ ox₁ ol work₁′ ox₁′ ol′ s → JoinAccepted xs ys zs × JoinRoom xs ys zs (length work) (length ox) (length oy) (length oz)
+      → NarrowExact xs (ys ++ zs) work₁ ox₁ ol work₁′ ox₁′ ol′ s → JoinAccepted xs ys zs × JoinRoom xs ys zs (length work) (length ox) (length oy) (length oz)
       → PairAccepted xs (ys ++ zs) × Room xs (ys ++ zs) (length work₁) (length ox₁) (length ol) → (r ≡ Narrowed.None) ↔ (s ≡ Narrowed.None)
   pub as-equality : {xs ys zs work ox oy oz work′ ox′ oy′ oz′ work₁ ox₁ ol work₁′ ox₁′ ol′ : List ℕ} → NarrowJoin xs ys zs work ox oy oz work′ ox′ oy′ oz′ Narrowed.Narrow
-      → NarrowEqual xs (ys ++ zs) work₁ ox₁ ol work₁′ ox₁′ ol′ Narrowed.Narrow
+      → NarrowExact xs (ys ++ zs) work₁ ox₁ ol work₁′ ox₁′ ol′ Narrowed.Narrow
       → (take (length xs) ox′ ≡ take (length xs) ox₁′) × (take (length ys) oy′ ++ take (length zs) oz′ ≡ take (length (ys ++ zs)) ol′)
 
 -- ---- order 4
@@ -133,3 +135,42 @@ pub record Request4 : Type 0 where
   -- "Refusals: 5 last": it says that the book is accepted, with the work buffer lent, and only the report buffer is too short
   pub five-last : {book report work report′ work′ : List ℕ} → RunHost book report work report′ work′ (negℤ (pos 5))
       → (b : Book) × FileAccepted book b × BookAccepted (b .counts) (wordsOf (b .blocks)) (numbersOfAll (b .rules)) (length work) × (length report < 16384)
+
+-- ---- order 5
+
+-- Lent to both calls: the same shapes xs and ys; to the one on padded texts work, ox and oy, to the exact one work₁, ox₁ and oy₁.
+pub record Request5 : Type 0 where
+  -- "Kind 0 shall mean equal once trailing blanks are dropped from both": a text is its trimmed text with blanks behind, and that has no blank at its end
+  pub kind-0 : (t u : List ℕ) → relationOf 0 t u ↔ (trimmed t ≡ trimmed u)
+  pub dropped : (t : List ℕ) → BlanksBehind t (trimmed t)
+  pub none-left : (t u : List ℕ) → trimmed t ≡ u ++ (blank ∷ []) → ⊥
+  -- "a text of blanks equals the empty one"
+  pub blanks-empty : (n : ℕ) → relationOf 0 (replicate n blank) []
+  -- "Kind 4 is the old, exact equality."
+  pub kind-4 : (t u : List ℕ) → relationOf 4 t u ↔ (t ≡ u)
+  -- kind 0 is an equality: of a text and itself, either way round, and passed on
+  pub reflexive : (t : List ℕ) → relationOf 0 t t
+  pub symmetric : (t u : List ℕ) → relationOf 0 t u → relationOf 0 u t
+  pub transitive : (t u v : List ℕ) → relationOf 0 t u → relationOf 0 u v → relationOf 0 t v
+  -- equal texts are, and so are a text and it with blanks behind; two are exactly if one is the other with blanks behind
+  pub equal-texts : (t u : List ℕ) → relationOf 4 t u → relationOf 0 t u
+  pub blanks-behind : (t : List ℕ) (n : ℕ) → relationOf 0 (t ++ replicate n blank) t
+  pub one-with-blanks : (t u : List ℕ) → relationOf 0 t u ↔ (BlanksBehind t u ⊎ BlanksBehind u t)
+  -- blanks in front of a text, and within it, count
+  pub leading-counts : relationOf 0 (blank ∷ (97 ∷ [])) (97 ∷ []) → ⊥
+  pub inner-counts : relationOf 0 (97 ∷ (blank ∷ (98 ∷ []))) (97 ∷ (98 ∷ [])) → ⊥
+  -- "The orders don't drop blanks.": a text comes before itself with blanks behind
+  pub orders-count : (t : List ℕ) (n : ℕ) → relationOf 2 t (t ++ replicate (n + 1) blank)
+  -- "Demand 2 speaks of both, each with its own pairs" (`padded`, `exact`): those of kind 4 are among those of kind 0, so that a none of kind 0 is one of kind 4, and kind 0
+  -- keeps at least what kind 4 keeps
+  pub none-of-both : {xs ys work ox oy work′ ox′ oy′ work₁ ox₁ oy₁ work₁′ ox₁′ oy₁′ : List ℕ} → NarrowPadded xs ys work ox oy work′ ox′ oy′ Narrowed.None
+      → NarrowExact xs ys work₁ ox₁ oy₁ work₁′ ox₁′ oy₁′ Narrowed.Narrow → ⊥
+  pub keeps-more : {xs ys work ox oy work′ ox′ oy′ work₁ ox₁ oy₁ work₁′ ox₁′ oy₁′ : List ℕ} → NarrowPadded xs ys work ox oy work′ ox′ oy′ Narrowed.Narrow
+      → NarrowExact xs ys work₁ ox₁ oy₁ work₁′ ox₁′ oy₁′ Narrowed.Narrow
+      → Within (shapeOf (take (length xs) ox₁′)) (shapeOf (take (length xs) ox′)) × Within (shapeOf (take (length ys) oy₁′)) (shapeOf (take (length ys) oy′))
+  -- "Demand 3 holds with both kinds in a book": what such rules ask of texts
+  pub asks-padded : (t : Rule) (text : ℕ → List ℕ) → t .kind ≡ 0 → Keeps t text ↔ Padded (text (t .a)) (text (t .b))
+  pub asks-exact : (t : Rule) (text : ℕ → List ℕ) → t .kind ≡ 4 → Keeps t text ↔ (text (t .a) ≡ text (t .b))
+  -- "Refusals: none new; kind 4 joins those that 7 lets pass": a rule of kind 4 is right exactly if it were with kind 0, and none of a later kind is
+  pub four-right : (counts : List ℕ) (a b c : ℕ) → RightRule counts (ruleWith 4 a b c) ↔ RightRule counts (ruleWith 0 a b c)
+  pub five-wrong : (counts : List ℕ) (t : Rule) → 4 < t .kind → RightRule counts t → ⊥

@@ -1,4 +1,5 @@
-// Equality's second pass: rows from the ends, and what both shapes' blocks are given on the way.
+// Equality's second pass: rows from the ends, and what both shapes' blocks are given on the way. The padding is a set of characters: none of them, or the
+// blank.
 use sets::Set;
 use shapes::Block;
 ghost use mathlib.Core.Path.{_≡_};
@@ -10,11 +11,13 @@ ghost use Rattle.bases.specs.Base.{Holds, Meets};
 ghost use Rattle.bases.specs.Tells.{Tells};
 ghost use Rattle.sets.specs.Set.{setOf, Exactly};
 ghost use Rattle.shapes.specs.Lent.{Whole, meant, shapeOf};
+ghost use Rattle.shapes.specs.Shape.{total, blockCount};
 ghost use Rattle.rows.specs.Row.{rowIn, rowCount, tableSize};
 ghost use Rattle.rows.specs.Steps.{InTurn};
 ghost use Rattle.row_lay.specs.Lay.{Lay};
+ghost use Rattle.row_paths.specs.Rows.{Inwards};
 ghost use Rattle.equal_forth.specs.Forth.{Pass};
-ghost use Rattle.equal_back.specs.Back.{Whenever, RowBack, BlockBack, Fresh, EndBack, Wide, SideTold};
+ghost use Rattle.equal_back.specs.Back.{Whenever, RowBack, BlockBack, Fresh, EndBack, Chars, Wide, SideTold};
 
 // What is gathered on the way back: the row, where the block at hand takes characters beside Y, where runs of Y end early; of X, where its
 // runs end early and where it takes a character.
@@ -55,12 +58,20 @@ fn lands(f: Set, stop: Set, may_end: bool) -> bool
     false
 }
 
+// What one character leads into a row from: the other shape goes on where it shares it, or waits at its end.
+fn inward(row: Set, mine: Set, waits: Set) -> Set
+    ensures { λ r. ⌜ Inwards (setOf row) (setOf mine) (setOf waits) (setOf r) ⌝ }
+{
+    sets::either(sets::both(sets::down(row), mine), sets::both(row, waits))
+}
+
 // The row at o characters of a block at p, from the row after it: f is the row of the first pass, `stop` that of the block's end.
 fn back_row(
     zones: &[u64],
     ends: &[u64],
     k: usize,
     mine: Set,
+    waits: Set,
     b: Block,
     p: usize,
     o: usize,
@@ -71,7 +82,7 @@ fn back_row(
     requires { ⌜ (k ≤ rowCount (now zones)) × (k ≤ rowCount (now ends)) ⌝ }
     requires { ⌜ InTurn (rowIn (now zones)) (rowIn (now ends)) k ⌝ }
     requires { ⌜ p + o < 256 ⌝ }
-    ensures { λ r. ⌜ Whenever (rowIn (now (zones .entry))) (rowIn (now (ends .entry))) k (setOf mine) p (meant b) (RowBack (setOf f) (setOf stop) o p (meant b) g r) ⌝ }
+    ensures { λ r. ⌜ Whenever (rowIn (now (zones .entry))) (rowIn (now (ends .entry))) k (setOf mine) (setOf waits) p (meant b) (RowBack (setOf f) (setOf stop) o p (meant b) g r) ⌝ }
 {
     let next = g.row;
     let used = g.used;
@@ -79,7 +90,7 @@ fn back_row(
     let stops = g.stops;
     let takes = g.takes;
     let may_end = b.lower <= o as u64;
-    let step = sets::both(sets::down(next), mine);
+    let step = inward(next, mine, waits);
     let here = sets::both(f, step);
     let closed = row_steps::back(zones, ends, k, equal_forth::with(step, stop, may_end));
     let row = closed.row;
@@ -99,6 +110,7 @@ fn back_block(
     ends: &[u64],
     k: usize,
     mine: Set,
+    waits: Set,
     b: Block,
     p: usize,
     rows: &[u64],
@@ -107,7 +119,7 @@ fn back_block(
     requires { ⌜ (k ≤ rowCount (now zones)) × (k ≤ rowCount (now ends)) ⌝ }
     requires { ⌜ InTurn (rowIn (now zones)) (rowIn (now ends)) k ⌝ }
     requires { ⌜ (p + b .upper ≤ 250) × (length (now rows) ≡ tableSize) ⌝ }
-    ensures { λ r. ⌜ Whenever (rowIn (now (zones .entry))) (rowIn (now (ends .entry))) k (setOf mine) p (meant b) (BlockBack (now (rows .entry)) p (meant b) g r) ⌝ }
+    ensures { λ r. ⌜ Whenever (rowIn (now (zones .entry))) (rowIn (now (ends .entry))) k (setOf mine) (setOf waits) p (meant b) (BlockBack (now (rows .entry)) p (meant b) g r) ⌝ }
 {
     let stop = g.row;
     let mut got = g;
@@ -115,7 +127,7 @@ fn back_block(
     while 0 < o {
         o -= 1;
         let f = rows::row_at(rows, p + o);
-        got = back_row(zones, ends, k, mine, b, p, o, f, stop, got);
+        got = back_row(zones, ends, k, mine, waits, b, p, o, f, stop, got);
     }
     got
 }
@@ -137,23 +149,43 @@ fn fresh(g: Gathered) -> Gathered
     }
 }
 
-// What is gathered at the ends, where m is the end of Y and f the last row of the first pass.
-fn at_end(zones: &[u64], ends: &[u64], k: usize, m: usize, f: Set) -> Gathered
-    requires { ⌜ (k ≤ rowCount (now zones)) × (k ≤ rowCount (now ends)) ⌝ }
-    requires { ⌜ InTurn (rowIn (now zones)) (rowIn (now ends)) k ⌝ }
-    requires { ⌜ m < 256 ⌝ }
-    ensures { λ r. ⌜ EndBack (rowIn (now (zones .entry))) (rowIn (now (ends .entry))) k m (setOf f) r ⌝ }
+// What is gathered at the ends n of X and m of Y, where f is the last row of the first pass: X waits, and Y goes on over padding.
+fn at_end(
+    y: &[u64],
+    zones: &[u64],
+    ends: &[u64],
+    slots: &[u64],
+    k: usize,
+    n: usize,
+    m: usize,
+    pad: Set,
+    f: Set,
+) -> Gathered
+    requires { ⌜ Whole (now y) × (k ≡ blockCount (now y)) × (m ≡ total (shapeOf (now y))) ⌝ }
+    requires { ⌜ Lay (shapeOf (now y)) (now zones) (now ends) (now slots) ⌝ }
+    requires { ⌜ (length (now y) ≤ length (now zones)) × (length (now y) ≤ length (now ends)) × (length (now y) ≤ length (now slots)) ⌝ }
+    requires { ⌜ n < 256 ⌝ }
+    ensures { λ r. ⌜ EndBack (setOf pad) (now (y .entry)) n (setOf f) r ⌝ }
 {
-    let closed = row_steps::back(zones, ends, k, sets::single(m));
-    let row = closed.row;
-    let cut = closed.quit;
+    let t = pad_rows::tail_of(y, zones, ends, slots, k, m, pad);
+    let row = t.row;
+    let taken = sets::both(f, t.takes);
     Gathered {
         row: row,
-        used: sets::none(),
-        quit: sets::both(f, cut),
+        used: taken,
+        quit: sets::both(f, t.quit),
         stops: sets::none(),
-        takes: sets::none(),
+        takes: with_number(sets::none(), n, !sets::is_empty(taken)),
     }
+}
+
+// The characters of a block that has used some positions of y, its end m among them.
+fn chars(used: Set, y: &[u64], slots: &[u64], k: usize, m: usize, pad: Set) -> Set
+    requires { ⌜ (k ≤ blockCount (now y)) × (k ≤ rowCount (now slots)) × (m < 256) ⌝ }
+    ensures { λ r. ⌜ Chars (setOf used) (now (y .entry)) (now (slots .entry)) k m (setOf pad) (setOf r) ⌝ }
+{
+    let own = row_steps::joined(used, y, slots, k);
+    equal_forth::with(own, pad, sets::has(used, m))
 }
 
 // All blocks of x beside y, from the last to the first: writes the characters of each block of both, and gives where their runs end early and
@@ -164,6 +196,7 @@ pub fn back(
     zones: &[u64],
     ends: &[u64],
     slots: &[u64],
+    pad: Set,
     mines: &[u64],
     rows: &[u64],
     last: Set,
@@ -172,26 +205,38 @@ pub fn back(
 ) -> Ways
     requires { ⌜ Whole (now x) × Whole (now y) ⌝ }
     requires { ⌜ Lay (shapeOf (now y)) (now zones) (now ends) (now slots) ⌝ }
-    requires { ⌜ Pass (now x) (now y) (now mines) (now rows) (setOf last) ⌝ }
+    requires { ⌜ Pass (setOf pad) (now x) (now y) (now mines) (now rows) (setOf last) ⌝ }
     requires { ⌜ Wide (now x) (now y) (now zones) (now ends) (now slots) (now mines) (now rows) (now own) (now others) ⌝ }
     requires { ⌜ now others ≡ replicate (length (now others)) 0 ⌝ }
-    ensures { λ r. ⌜ SideTold (now (x .entry)) (now (y .entry)) (setOf (r .stops)) (setOf (r .takes)) (now (own .exit)) ⌝ }
-    ensures { λ r. ⌜ SideTold (now (y .entry)) (now (x .entry)) (setOf (r .quit)) (setOf (r .moved)) (now (others .exit)) ⌝ }
+    ensures { λ r. ⌜ SideTold (setOf pad) (now (x .entry)) (now (y .entry)) (setOf (r .stops)) (setOf (r .takes)) (now (own .exit)) ⌝ }
+    ensures { λ r. ⌜ SideTold (setOf pad) (now (y .entry)) (now (x .entry)) (setOf (r .quit)) (setOf (r .moved)) (now (others .exit)) ⌝ }
     ensures { λ _. ⌜ (length (now (own .exit)) ≡ length (now (own .entry))) × (length (now (others .exit)) ≡ length (now (others .entry))) ⌝ }
 {
     let k = y.len() / shapes::SIZE;
     let m = shapes::total_upper(y) as usize;
-    let mut g = at_end(zones, ends, k, m, last);
-    let mut moved = sets::none();
     let mut p = shapes::total_upper(x) as usize;
+    let mut g = at_end(y, zones, ends, slots, k, p, m, pad, last);
+    let mut moved = g.used;
+    row_steps::give(moved, pad, slots, others, k);
     let mut i = x.len() / shapes::SIZE;
     while 0 < i {
         i -= 1;
         let b = shapes::block_at(x, i);
         p -= b.upper as usize;
-        g = back_block(zones, ends, k, rows::row_at(mines, i), b, p, rows, fresh(g));
+        let waits = equal_forth::waiting(b.base, pad, m);
+        g = back_block(
+            zones,
+            ends,
+            k,
+            rows::row_at(mines, i),
+            waits,
+            b,
+            p,
+            rows,
+            fresh(g),
+        );
         let used = g.used;
-        rows::put_row(own, i, row_steps::joined(used, y, slots, k));
+        rows::put_row(own, i, chars(used, y, slots, k, m, pad));
         row_steps::give(used, b.base, slots, others, k);
         moved = sets::either(moved, used);
     }

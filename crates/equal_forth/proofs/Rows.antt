@@ -3,22 +3,21 @@ use mathlib.Core.Path.{_≡_, refl, sym, _∙_, subst}
 use mathlib.Core.Bool.{true, false}
 use mathlib.Core.List.{List}
 use mathlib.Core.Logic.{⊎-elim}
-use Prim.Native.Nat.{ℕ, _+_, _-_, _*_, _%_, _^_, _≤_, _<_}
+use Prim.Native.Nat.{ℕ, _+_, _-_, _≤_, _<_}
 use native.Mathlib.Omega.{arith}
 use borrow.Author.Tests.{lt-leb, le-leb}
-use lib.Bits.{bitAnd, bitOr}
+use lib.Bits.{bitOr}
 use lib.Dec.{leb}
-use Rattle.bases.specs.Base.{Meets}
 use Rattle.bases.proofs.Plain.{lt-or-le}
 use Rattle.sets.specs.Set.{Exactly}
 use Rattle.sets.proofs.Exact.{exactly-at}
 use Rattle.shapes.specs.Shape.{Block}
-use Rattle.rests.specs.Walk.{Path}
+use Rattle.pads.specs.Pad.{PadPath}
 use Rattle.rows.specs.Row.{rowIn, PutRow}
 use Rattle.rows.specs.Steps.{Leads}
-use Rattle.row_paths.specs.Rows.{Zones, BlockIn, Entered}
+use Rattle.row_paths.specs.Rows.{Zones, Shares, Onwards, BlockIn, Entered}
 use Rattle.row_paths.proofs.Reached.{reached-row}
-use Rattle.row_paths.proofs.Forth.{enter-within, enter-next, comes-none, between-none, comes-more, between-more, between-same}
+use Rattle.row_paths.proofs.Forth.{slot-upper, enter-within, enter-next, comes-none, between-none, comes-more, between-more, between-same}
 use Rattle.equal_forth.specs.Forth.{RowsTo, BlockRows, RowsKept}
 
 -- ---- one block
@@ -27,24 +26,24 @@ pub rows-none : {X Y : ℕ → Block} {p : ℕ} {b : Block} (rows : List ℕ) {s
 rows-none rows z x = record { row = λ h l. absurd (omega arith); enter-is = comes-none x; stopped-is = between-none z }
 
 -- the row of position o, put there, added to what has stopped if it counts, and led on by one character of both
-pub rows-more : {X Y : ℕ → Block} {Z E : ℕ → ℕ} {k p : ℕ} {b : Block} {o : ℕ} {w w′ : List ℕ} (mine r a : ℕ) {enter stopped enter′ stopped′ : ℕ} → Zones Y Z E k → BlockIn X p b → Exactly mine (λ q. Meets (b .base) (Y q .base))
+pub rows-more : {X Y : ℕ → Block} {Z E : ℕ → ℕ} {k p : ℕ} {b : Block} {o : ℕ} {w w′ : List ℕ} (mine waits r : ℕ) {enter stopped enter′ stopped′ : ℕ} → Zones Y Z E k → BlockIn X p b → Shares Y (b .base) mine waits
     → o < b .upper → RowsTo X Y p b o w enter stopped → Exactly r (Leads E Z k enter) → PutRow w (p + o) r w′
     → (leb (b .lower) o ≡ true → stopped′ ≡ bitOr stopped r) → (leb (b .lower) o ≡ false → stopped′ ≡ stopped)
-    → a ≡ bitAnd r mine → enter′ ≡ a * 2 % 2 ^ 256 → RowsTo X Y p b (o + 1) w′ enter′ stopped′
-rows-more {X} {Y} {p = p} {b = b} {o = o} {w = w} {w′ = w′} mine r a {enter} {stopped} {enter′} {stopped′} z k m l t x u on off e f = record {
+    → Onwards r mine waits enter′ → RowsTo X Y p b (o + 1) w′ enter′ stopped′
+rows-more {X} {Y} {p = p} {b = b} {o = o} {w = w} {w′ = w′} mine waits r {enter} {stopped} {enter′} {stopped′} z k m l t x u on off e = record {
   row = λ h g. ⊎-elim
-      (λ c. subst (λ (v : ℕ). Exactly v (λ j. Path X Y (p + h) j 0 0)) (sym (u .kept (p + h) (λ q. omega arith))) (t .row h c))
-      (λ c. let same : o ≡ h = omega arith in subst (λ (q : ℕ). Exactly (rowIn w′ (p + q)) (λ j. Path X Y (p + q) j 0 0)) same (exactly-at (u .here) here))
+      (λ c. subst (λ (v : ℕ). Exactly v (λ j. PadPath X Y (p + h) j 0 0)) (sym (u .kept (p + h) (λ q. omega arith))) (t .row h c))
+      (λ c. let same : o ≡ h = omega arith in subst (λ (q : ℕ). Exactly (rowIn w′ (p + q)) (λ j. PadPath X Y (p + q) j 0 0)) same (exactly-at (u .here) here))
       (lt-or-le h o);
-  enter-is = comes-more z r mine o here m e f;
+  enter-is = comes-more r o here (e .holds Y (b .base) m);
   stopped-is = ⊎-elim
       (λ c. exactly-at (off (lt-leb (b .lower) o c)) (between-same o c (t .stopped-is)))
       (λ c. between-more stopped r o c (on (le-leb (b .lower) o c)) (t .stopped-is) here)
       (lt-or-le o (b .lower));
 }
   where
-    here : Exactly r (λ j. Path X Y (p + o) j 0 0)
-    here = reached-row z (enter-within k l (t .enter-is)) x
+    here : Exactly r (λ j. PadPath X Y (p + o) j 0 0)
+    here = reached-row z (let a = slot-upper k o l in omega arith) (enter-within k l (t .enter-is)) x
 
 pub rows-end : {X Y : ℕ → Block} {p : ℕ} {b : Block} {o n : ℕ} {rows : List ℕ} {enter stopped : ℕ} → o ≡ n → RowsTo X Y p b o rows enter stopped → RowsTo X Y p b n rows enter stopped
 rows-end {X} {Y} {p} {b} {rows = rows} {enter = enter} {stopped = stopped} e t = subst (λ (x : ℕ). RowsTo X Y p b x rows enter stopped) e t

@@ -1,16 +1,19 @@
-// Equality's first pass: for each position of one shape the row of the positions of the other that one text leads to from the starts.
+// Equality's first pass: for each position of one shape the row of the positions of the other that one text, but for padding, leads to from the starts.
+// The padding is a set of characters: none of them, or the blank.
 use sets::Set;
 use shapes::Block;
 ghost use mathlib.Core.Path.{_≡_};
 ghost use mathlib.Core.Bool.{true, false};
-ghost use Prim.Native.Nat.{_+_, _/_, _≤_};
+ghost use Prim.Native.Nat.{_+_, _/_, _≤_, _<_};
 ghost use lib.Bits.{bitOr};
 ghost use lib.ListN.{length};
-ghost use Rattle.sets.specs.Set.{setOf};
+ghost use Rattle.bases.specs.Base.{Meets};
+ghost use Rattle.sets.specs.Set.{setOf, Exactly};
 ghost use Rattle.shapes.specs.Lent.{Whole, meant, shapeOf};
 ghost use Rattle.rows.specs.Row.{rowIn, rowCount, tableSize};
 ghost use Rattle.rows.specs.Steps.{InTurn};
 ghost use Rattle.row_lay.specs.Lay.{Lay};
+ghost use Rattle.row_paths.specs.Rows.{Onwards};
 ghost use Rattle.equal_forth.specs.Forth.{BlockRows, Follows, RowsKept, Pass};
 
 // Adds a set where it counts.
@@ -24,12 +27,31 @@ pub fn with(s: Set, t: Set, on: bool) -> Set
     s
 }
 
+// The end m of a shape, where a base shares a character with the padding: there the shape waits.
+pub fn waiting(base: Set, pad: Set, m: usize) -> Set
+    requires { ⌜ m < 256 ⌝ }
+    ensures { λ r. ⌜ Exactly (setOf r) (λ q. Meets (setOf base) (setOf pad) × (q ≡ m)) ⌝ }
+{
+    if sets::meets(base, pad) {
+        return sets::single(m);
+    }
+    sets::none()
+}
+
+// What one character leads to from a row: the other shape goes on where it shares it, or waits at its end.
+fn onward(row: Set, mine: Set, waits: Set) -> Set
+    ensures { λ r. ⌜ Onwards (setOf row) (setOf mine) (setOf waits) (setOf r) ⌝ }
+{
+    sets::either(sets::up(sets::both(row, mine)), sets::both(row, waits))
+}
+
 // The rows of the block b from position p on, which s enters; gives what the next position is entered by.
 fn forth_block(
     zones: &[u64],
     ends: &[u64],
     k: usize,
     mine: Set,
+    waits: Set,
     b: Block,
     p: usize,
     s: Set,
@@ -38,7 +60,7 @@ fn forth_block(
     requires { ⌜ (k ≤ rowCount (now zones)) × (k ≤ rowCount (now ends)) ⌝ }
     requires { ⌜ InTurn (rowIn (now zones)) (rowIn (now ends)) k ⌝ }
     requires { ⌜ (p + b .upper ≤ 250) × (length (now rows) ≡ tableSize) ⌝ }
-    ensures { λ r. ⌜ Follows (rowIn (now (zones .entry))) (rowIn (now (ends .entry))) k (setOf mine) p (meant b) (setOf s) (λ X Y. BlockRows X Y p (meant b) (now (rows .exit)) (setOf r)) ⌝ }
+    ensures { λ r. ⌜ Follows (rowIn (now (zones .entry))) (rowIn (now (ends .entry))) k (setOf mine) (setOf waits) p (meant b) (setOf s) (λ X Y. BlockRows X Y p (meant b) (now (rows .exit)) (setOf r)) ⌝ }
     ensures { λ _. ⌜ RowsKept p (now (rows .entry)) (now (rows .exit)) ⌝ }
 {
     let upper = b.upper as usize;
@@ -49,19 +71,20 @@ fn forth_block(
         let row = row_steps::forth(zones, ends, k, enter);
         rows::put_row(rows, p + o, row);
         stopped = with(stopped, row, b.lower <= o as u64);
-        enter = sets::up(sets::both(row, mine));
+        enter = onward(row, mine, waits);
         o += 1;
     }
     sets::either(enter, stopped)
 }
 
-// The rows of all blocks of x beside y, which is laid out in `zones`, `ends` and `slots`; gives the last.
+// The rows of all blocks of x beside y, which is laid out in `zones`, `ends` and `slots`; gives the last, in which y alone goes on over padding.
 pub fn forth(
     x: &[u64],
     y: &[u64],
     zones: &[u64],
     ends: &[u64],
     slots: &[u64],
+    pad: Set,
     mines: &mut [u64],
     rows: &mut [u64],
 ) -> Set
@@ -69,11 +92,12 @@ pub fn forth(
     requires { ⌜ Lay (shapeOf (now y)) (now zones) (now ends) (now slots) ⌝ }
     requires { ⌜ (length (now y) ≤ length (now zones)) × (length (now y) ≤ length (now ends)) × (length (now y) ≤ length (now slots)) ⌝ }
     requires { ⌜ (length (now x) ≤ length (now mines)) × (length (now rows) ≡ tableSize) ⌝ }
-    ensures { λ r. ⌜ Pass (now (x .entry)) (now (y .entry)) (now (mines .exit)) (now (rows .exit)) (setOf r) ⌝ }
+    ensures { λ r. ⌜ Pass (setOf pad) (now (x .entry)) (now (y .entry)) (now (mines .exit)) (now (rows .exit)) (setOf r) ⌝ }
     ensures { λ _. ⌜ (length (now (mines .exit)) ≡ length (now (mines .entry))) × (length (now (rows .exit)) ≡ length (now (rows .entry))) ⌝ }
 {
     let n = x.len() / shapes::SIZE;
     let k = y.len() / shapes::SIZE;
+    let m = shapes::total_upper(y) as usize;
     let mut s = sets::single(0);
     let mut p = 0;
     let mut i = 0;
@@ -81,11 +105,12 @@ pub fn forth(
         let b = shapes::block_at(x, i);
         let mine = row_steps::matching(b.base, y, slots, k);
         rows::put_row(mines, i, mine);
-        s = forth_block(zones, ends, k, mine, b, p, s, rows);
+        let waits = waiting(b.base, pad, m);
+        s = forth_block(zones, ends, k, mine, waits, b, p, s, rows);
         p += b.upper as usize;
         i += 1;
     }
-    let last = row_steps::forth(zones, ends, k, s);
+    let last = pad_rows::trail(y, zones, ends, slots, k, pad, s);
     rows::put_row(rows, p, last);
     last
 }

@@ -1,5 +1,5 @@
 -- The function is exact: its outcome is what narrowing under equality means. Assumes nothing.
-use mathlib.Core.Path.{_≡_, refl, sym, ap, _∙_, subst}
+use mathlib.Core.Path.{_≡_, refl, sym, ap, _∙_, subst, subst₂}
 use mathlib.Core.Bool.{Bool, true, false}
 use mathlib.Core.List.{List, [], _++_}
 use Prim.Native.Nat.{ℕ, suc, _+_, _-_, _≤_, _<_}
@@ -11,12 +11,17 @@ use Rattle.bases.specs.Tells.{Tells}
 use Rattle.shapes.specs.All.{All}
 use Rattle.shapes.specs.Shape.{Block, Sound, total, noBlock}
 use Rattle.hulls.specs.Hull.{Pairs, NarrowsTo, to-none, to-shapes}
+use Rattle.hulls.proofs.Hull.{same-rule, same-none}
 use Rattle.rests.specs.Walk.{slotAt, Path, Bounded, Same}
-use Rattle.rests.specs.Collect.{Collected}
 use Rattle.rests.proofs.Walks.{turn-path}
 use Rattle.rests.proofs.Laid.{bounded}
-use Rattle.rests.proofs.Tight.{place, equal-none, equal-hull, some-first}
-use Rattle.equal_reckoning.specs.Equal.{and, at, listed, lastRows, froms, mark, marks, tableOf, cellOf, blocksOf, outcome, fromTable, equalHull}
+use Rattle.pads.specs.Pad.{PadPath, paddedAt}
+use Rattle.pads.specs.Collect.{Ends, Collected}
+use Rattle.pads.proofs.But.{but-nothing, nothing-but}
+use Rattle.pads.proofs.Cut.{Place}
+use Rattle.pads.proofs.Paths.{path-pad, pad-path, slots-nothing, slot-roomy}
+use Rattle.pads.proofs.Tight.{place, equal-none, equal-hull, some-first}
+use Rattle.equal_reckoning.specs.Equal.{and, at, listed, lastRows, froms, mark, marks, tableOf, cellOf, blockTold, blocksOf, outcome, fromTable, equalHull}
 use Rattle.equal_reckoning.proofs.Tests.{tells-and, tells-as, tells-so, tells-ltb, listed-at}
 use Rattle.equal_reckoning.proofs.Finish.{RowsFrom, last-rows}
 use Rattle.equal_reckoning.proofs.Reach.{RowsTo, first-rows}
@@ -67,11 +72,27 @@ told-table {X} {Y} {U} {W} x y = told-marks
 
 -- ---- the outcome
 
+-- with no padding, what is said of the slots with padding behind them is said of the slots
+module _ (P : (ℕ → Block) → (ℕ → Block) → Type 0) (X Y : List Block) where
+  bare : P (paddedAt 0 X) (paddedAt 0 Y) → P (slotAt X) (slotAt Y)
+  bare p = subst₂ P (slots-nothing X) (slots-nothing Y) p
+
+  padded : P (slotAt X) (slotAt Y) → P (paddedAt 0 X) (paddedAt 0 Y)
+  padded p = subst₂ P (sym (slots-nothing X)) (sym (slots-nothing Y)) p
+
+through : (X Y : List Block) → Path (slotAt X) (slotAt Y) (total X) (total Y) 0 0 → PadPath (paddedAt 0 X) (paddedAt 0 Y) (total X) (total Y) 0 0
+through X Y p = padded (λ x y. PadPath x y (total X) (total Y) 0 0) X Y (path-pad (slot-roomy X) (slot-roomy Y) p)
+
 module _ (X Y : List Block) (gx : All Sound X) (gy : All Sound Y) {T : ℕ → ℕ → ℕ} (t : Told (slotAt X) (slotAt Y) (total X) (total Y) T) where
   side : (p : Path (slotAt X) (slotAt Y) (total X) (total Y) 0 0) (i : ℕ) → i < length X
-      → Collected (slotAt X) (slotAt Y) (total X) (total Y) (total (take i X)) (getD X i noBlock) (getD (blocksOf T (slotAt Y) (total Y) 0 X) i noBlock)
-  side p i h = subst (Collected (slotAt X) (slotAt Y) (total X) (total Y) (total (take i X)) (getD X i noBlock)) (sym (blocks-at T (slotAt Y) (total Y) 0 (total (take i X)) X i h (omega arith)))
-      (block-says (place X Y gx i h) t (some-first X Y gx gy p i h .1))
+      → Collected (paddedAt 0 X) (paddedAt 0 Y) (total X) (total Y) (total (take i X)) (getD X i noBlock) (getD (blocksOf T (slotAt Y) (total Y) 0 X) i noBlock)
+  side p i h = subst (Collected (paddedAt 0 X) (paddedAt 0 Y) (total X) (total Y) (total (take i X)) (getD X i noBlock)) (sym (blocks-at T (slotAt Y) (total Y) 0 (total (take i X)) X i h (omega arith)))
+      (padded (λ x y. Collected x y (total X) (total Y) (total (take i X)) (getD X i noBlock) (blockTold T (slotAt Y) (total Y) (total (take i X)) (getD X i noBlock))) X Y
+      (block-says (bare (λ x y. Place x y (total X) (total Y) (total (take i X)) (getD X i noBlock)) X Y (place 0 X Y gx i h)) (slot-roomy X) (slot-roomy Y) (bounded Y) t
+      (bare (λ x y. Ends x y (total X) (total Y) (total (take i X)) (getD X i noBlock) (some .0)) X Y (some .1))))
+    where
+      some : (n : ℕ) × Ends (paddedAt 0 X) (paddedAt 0 Y) (total X) (total Y) (total (take i X)) (getD X i noBlock) n
+      some = some-first 0 X Y gx gy (through X Y p) i h
 
 module _ (X Y : List Block) (gx : All Sound X) (gy : All Sound Y) where
   exact-table : (t : List (List ℕ)) → Told (slotAt X) (slotAt Y) (total X) (total Y) (cellOf t) → NarrowsTo (Pairs Same (length X)) (X ++ Y) (fromTable X Y t)
@@ -80,12 +101,18 @@ module _ (X Y : List Block) (gx : All Sound X) (gy : All Sound Y) where
     where
       go : (v : Bool) → eqb (cellOf t 0 0) 0 ≡ v
           → NarrowsTo (Pairs Same (length X)) (X ++ Y) (outcome v (blocksOf (cellOf t) (slotAt Y) (total Y) 0 X ++ blocksOf (λ i j. cellOf t j i) (slotAt X) (total X) 0 Y))
-      go true e = to-none (equal-none X Y gx gy (λ p. let z = eqb-true (cellOf t 0 0) 0 e in let l = tells-ltb 0 (cellOf t 0 0) .so (tells-so (k .live 0 0 (omega arith) (omega arith)) p) in omega arith))
+      go true e = to-none (same-none (λ f _. nothing-but) (equal-none 0 X Y gx gy (λ p.
+          let q = pad-path (slot-roomy X) (slot-roomy Y) (bare (λ x y. PadPath x y (total X) (total Y) 0 0) X Y p) in
+          let z = eqb-true (cellOf t 0 0) 0 e in
+          let l = tells-ltb 0 (cellOf t 0 0) .so (tells-so (k .live 0 0 (omega arith) (omega arith)) q) in
+          omega arith)))
       go false e =
           let z = eqb-false (cellOf t 0 0) 0 e in
           let p = k .live 0 0 (omega arith) (omega arith) .so (tells-so (tells-ltb 0 (cellOf t 0 0)) (omega arith)) in
-          to-shapes (equal-hull X Y gx gy (blocksOf (cellOf t) (slotAt Y) (total Y) 0 X) (blocksOf (λ i j. cellOf t j i) (slotAt X) (total X) 0 Y) p (blocks-size (cellOf t) (slotAt Y) (total Y) 0 X) (blocks-size (λ i j. cellOf t j i) (slotAt X) (total X) 0 Y)
-          (side X Y gx gy k p) (side Y X gy gx (turn-told k) (turn-path p)))
+          to-shapes (same-rule (λ f _. but-nothing) (λ f _. nothing-but)
+          (equal-hull 0 X Y gx gy (blocksOf (cellOf t) (slotAt Y) (total Y) 0 X) (blocksOf (λ i j. cellOf t j i) (slotAt X) (total X) 0 Y) (through X Y p)
+          (blocks-size (cellOf t) (slotAt Y) (total Y) 0 X) (blocks-size (λ i j. cellOf t j i) (slotAt X) (total X) 0 Y)
+          (side X Y gx gy k p) (side Y X gy gx (turn-told k) (turn-path p))))
 
   -- the function is exact
   pub equal-exact : NarrowsTo (Pairs Same (length X)) (X ++ Y) (equalHull X Y)

@@ -1,5 +1,5 @@
 -- The blocks that the function makes of a table are those of the pairs of fillings with one text. Assumes nothing.
-use mathlib.Core.Path.{_≡_, refl, ap, subst}
+use mathlib.Core.Path.{_≡_, refl, sym, ap, subst}
 use mathlib.Core.Bool.{Bool, true, false, false≢true}
 use mathlib.Core.List.{List, [], _∷_}
 use mathlib.Core.Logic.{_⊎_, inl, inr, ⊎-elim}
@@ -14,11 +14,13 @@ use Rattle.bases.proofs.Plain.{lt-or-le}
 use Rattle.sets.specs.Set.{Exactly}
 use Rattle.sets.proofs.Exact.{exactly-as, none-exactly, both-exactly, either-exactly}
 use Rattle.shapes.specs.Shape.{Block, total, noBlock}
-use Rattle.rests.specs.Walk.{here, both, Path, move}
-use Rattle.rests.specs.Collect.{Passes, Ends, empty, filled, Collected}
-use Rattle.rests.proofs.Walks.{path-of, path-append, path-from, turn-path}
+use Rattle.rests.specs.Walk.{here, both, Path, move, Bounded}
+use Rattle.rests.proofs.Walks.{path-of, path-append, path-from, turn-path, text-of, below-character, ends-within}
 use Rattle.rests.proofs.Laid.{to-end}
-use Rattle.rests.proofs.Cut.{Place}
+use Rattle.pads.specs.Pad.{PadPath, Roomy, after}
+use Rattle.pads.specs.Collect.{Passes, Ends, empty, filled, Collected}
+use Rattle.pads.proofs.Paths.{path-pad, pad-path, after-on}
+use Rattle.pads.proofs.Cut.{Place}
 use Rattle.equal_reckoning.specs.Equal.{joins, add, othersAt, othersWithin, hasLength, firstFrom, lastTo, blockTold, blocksOf}
 use Rattle.equal_reckoning.proofs.Tests.{tells-map, tells-and, tells-so, tells-eqb, tells-leb, tells-meet, Under, under-to, under-of, tells-some, if-cases}
 
@@ -85,7 +87,7 @@ module _ (T : ℕ → ℕ → ℕ) (Y : ℕ → Block) where
 
 -- ---- one block
 
-module _ {X Y : ℕ → Block} {U W p : ℕ} {b : Block} {T : ℕ → ℕ → ℕ} (at : Place X Y U W p b) (t : Told X Y U W T) where
+module _ {X Y : ℕ → Block} {U W p : ℕ} {b : Block} {T : ℕ → ℕ → ℕ} (at : Place X Y U W p b) (x : Roomy X) (y : Roomy Y) (end : Bounded Y W) (t : Told X Y U W T) where
   -- the starts lead to i and j, and these to the ends, as e and d do
   abbrev Joint : ℕ → ℕ → ℕ → ℕ → Type 0
   Joint i j e d = (Path X Y U W i j × Path X Y i j 0 0) × Path X Y U W e d
@@ -93,6 +95,23 @@ module _ {X Y : ℕ → Block} {U W p : ℕ} {b : Block} {T : ℕ → ℕ → �
   joins-says : {i j e d : ℕ} → i ≤ U → j ≤ W → e ≤ U → d ≤ W → Tells (joins T i j e d) (Joint i j e d)
   unfolding joins
   joins-says h g k l = tells-and _ (t .marked _ _ h g) (λ z. t .live _ _ k l)
+
+  -- without padding one text leads both, and the other goes on at each character
+  to-path : {m n i j : ℕ} → PadPath X Y m n i j → Path X Y m n i j
+  to-path q = pad-path x y q
+
+  on : {m n i : ℕ} (j c : ℕ) → Holds (Y j .base) c → PadPath X Y m n i (after Y j) → Path X Y m n i (j + 1)
+  on j c h q = path-from refl (sym (after-on Y j (y .has j c h))) (to-path q)
+
+  on-pad : {m n i : ℕ} (j c : ℕ) → Holds (Y j .base) c → Path X Y m n i (j + 1) → PadPath X Y m n i (after Y j)
+  on-pad j c h q = path-pad x y (path-from refl (after-on Y j (y .has j c h)) q)
+
+  -- and stays within its positions
+  reached-within : {i j : ℕ} → PadPath X Y i j 0 0 → j ≤ W
+  reached-within q = let v = text-of (to-path q) in ends-within end (omega arith) (v .2)
+
+  taken-below : {i j : ℕ} (c : ℕ) → PadPath X Y i j 0 0 → Holds (Y j .base) c → j < W
+  taken-below {j = j} c q h = below-character end j c (reached-within q) h
 
   -- both take a character within the block
   by-both : {k j : ℕ} → k < b .upper → Meets (b .base) (Y j .base) → Path X Y U W (p + k + 1) (j + 1) → Path X Y U W (p + k) j
@@ -111,37 +130,40 @@ module _ {X Y : ℕ → Block} {U W p : ℕ} {b : Block} {T : ℕ → ℕ → �
 
       passes : (c : ℕ) → Holds (b .base) c × Holds (othersWithin T Y W p (b .upper)) c → Passes X Y U W p b c
       passes c h =
-          let x = within-say T Y W p (b .upper) .so c (h .1) in
-          let y = x .2 in
-          let q = shows (x .1) (y .1) .so (y .2 .0) in
-          record { before = x .0; other = y .0; room = x .1; bound = y .1; reached = q .0 .1; own = h .0; others = y .2 .1; after = q .1 }
+          let u = within-say T Y W p (b .upper) .so c (h .1) in
+          let v = u .2 in
+          let q = shows (u .1) (v .1) .so (v .2 .0) in
+          record { before = u .0; other = v .0; room = u .1; reached = path-pad x y (q .0 .1); own = h .0; others = v .2 .1; on = on-pad (v .0) c (v .2 .1) (q .1) }
 
       shown : (c : ℕ) → Passes X Y U W p b c → Holds (b .base) c × Holds (othersWithin T Y W p (b .upper)) c
       shown c s =
-          let q = tells-so (shows (s .room) (s .bound)) ((by-both (s .room) (record { shared = c; first = s .own; second = s .others }) (s .after), s .reached), s .after) in
-          (s .own, within-say T Y W p (b .upper) .mark c (s .before, s .room, (s .other, s .bound, (q, s .others))))
+          let bound = taken-below c (s .reached) (s .others) in
+          let rest = on (s .other) c (s .others) (s .on) in
+          let q = tells-so (shows (s .room) bound) ((by-both (s .room) (record { shared = c; first = s .own; second = s .others }) rest, to-path (s .reached)), rest) in
+          (s .own, within-say T Y W p (b .upper) .mark c (s .before, s .room, (s .other, bound, (q, s .others))))
 
   length-says : (n : ℕ) → n ≤ b .upper → Tells (hasLength T Y W p b n) (Ends X Y U W p b n)
   unfolding hasLength
   length-says zero h = let fits = at .fits in tells-map
-      (λ x. let s = x .1 in let l = s .1 in empty (s .0) (omega arith) (x .0) refl (s .2 .0 .1) (s .2 .1))
+      (λ x′. let s = x′ .1 in empty (s .0) (x′ .0) refl (path-pad x y (s .2 .0 .1)) (path-pad x y (s .2 .1)))
       (elim [
-        | empty j l low e pre post ↦ (low, (j, omega arith, ((by-end {k = 0} (omega arith) (omega arith) h post, pre), post)))
-        | filled k j l e room low pre m post ↦ absurd (omega arith)
+        | empty j low e pre post ↦ (low, (j, (let l = reached-within pre in omega arith), ((by-end {k = 0} (omega arith) (omega arith) h (to-path post), to-path pre), to-path post)))
+        | filled k j e room low pre m post ↦ absurd (omega arith)
       ])
       (tells-and _ (tells-eqb (b .lower) 0) (λ e. tells-some _ (λ j. Joint p j (p + b .upper) j) (suc W) (λ j l. joins-says (omega arith) (omega arith) fits (omega arith))))
   length-says (suc k) h = let fits = at .fits in tells-map
-      (λ x. let s = x .1 in filled k (s .0) (s .1) (omega arith) (omega arith) (x .0) (s .2 .0 .0 .1) (s .2 .1) (s .2 .0 .1))
+      (λ x′. let s = x′ .1 in let m = s .2 .1 in filled k (s .0) (omega arith) (omega arith) (x′ .0) (path-pad x y (s .2 .0 .0 .1)) m (on-pad (s .0) (m .shared) (m .second) (s .2 .0 .1)))
       (split k h)
       (tells-and _ (tells-leb (b .lower) (suc k)) (λ e. tells-some _ (λ j. Joint (p + k) j (p + b .upper) (j + 1) × Meets (b .base) (Y j .base)) W
       (λ j l. tells-and _ (joins-says (omega arith) (omega arith) fits (omega arith)) (λ z. tells-meet (b .base) (Y j .base)))))
     where
       split : (k : ℕ) → suc k ≤ b .upper → Ends X Y U W p b (suc k) → (b .lower ≤ suc k) × Under (λ j. Joint (p + k) j (p + b .upper) (j + 1) × Meets (b .base) (Y j .base)) W
-      split k h (empty j l low e pre post) = absurd (omega arith)
-      split k h (filled i j l e room low pre m post) =
-          let q = by-both room m (by-end {k = suc k} (omega arith) low h post) in
+      split k h (empty j low e pre post) = absurd (omega arith)
+      split k h (filled i j e room low pre m post) =
+          let rest = on j (m .shared) (m .second) post in
+          let q = by-both room m (by-end {k = suc k} (omega arith) low h rest) in
           let z : i ≡ k = omega arith in
-          (low, (j, l, (((subst (λ (v : ℕ). Path X Y U W (p + v) j) z q, subst (λ (v : ℕ). Path X Y (p + v) j 0 0) z pre), post), m)))
+          (low, (j, taken-below (m .shared) pre (m .second), (((subst (λ (v : ℕ). Path X Y U W (p + v) j) z q, subst (λ (v : ℕ). Path X Y (p + v) j 0 0) z (to-path pre)), rest), m)))
 
   pub block-says : {n : ℕ} → Ends X Y U W p b n → Collected X Y U W p b (blockTold T Y W p b)
   unfolding blockTold
@@ -151,8 +173,8 @@ module _ {X Y : ℕ → Block} {U W p : ℕ} {b : Block} {T : ℕ → ℕ → �
       record { held = passes-say .so; all-held = passes-say .mark; shortest = s .0; not-shorter = s .1; longest = l .0; not-longer = l .1 }
     where
       short : (k : ℕ) → Ends X Y U W p b k → k ≤ b .upper
-      short k (empty j l low e pre post) = omega arith
-      short k (filled i j l e room low pre m post) = omega arith
+      short k (empty j low e pre post) = omega arith
+      short k (filled i j e room low pre m post) = omega arith
 
 -- ---- all blocks
 

@@ -46,7 +46,7 @@ fn narrow_line(line: &[u64], x: &[u64], new: &mut [u64], out_x: &mut [u64]) -> b
     ensures { λ r. ⌜ NarrowAnswer Same (now (line .entry)) (now (x .entry)) (now (new .entry)) (now («out_x» .entry)) (now (new .exit)) (now («out_x» .exit)) r ⌝ }
 {
     if line.len() < x.len() {
-        return equals::narrow_equal(x, line, out_x, new);
+        return equals::narrow_exact(x, line, out_x, new);
     }
     equals::narrow_long(line, x, new, out_x)
 }

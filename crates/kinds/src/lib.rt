@@ -1,4 +1,4 @@
-// Narrowing two texts under the relation of a rule's kind: 0 equal, 1 at most, 2 before.
+// Narrowing two texts under the relation of a rule's kind: 0 equal once trailing blanks are dropped, 1 at most, 2 before, 4 equal to the letter.
 use answers::Checked;
 use answers::Narrowed;
 ghost use Prim.Native.Nat.{_≤_};
@@ -21,7 +21,10 @@ pub fn narrow_accepted(
     ensures { λ r. ⌜ NarrowAnswer (relationOf kind) (now (x .entry)) (now (y .entry)) (now («out_x» .entry)) (now («out_y» .entry)) (now («out_x» .exit)) (now («out_y» .exit)) r ⌝ }
 {
     if kind == 0 {
-        return equals::narrow_equal(x, y, out_x, out_y);
+        return equals::narrow_padded(x, y, out_x, out_y);
+    }
+    if kind == 4 {
+        return equals::narrow_exact(x, y, out_x, out_y);
     }
     orders::narrow_order(kind != 1, x, y, out_x, out_y)
 }

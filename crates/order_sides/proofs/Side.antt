@@ -16,7 +16,7 @@ use Rattle.hulls.proofs.Tight.{tight-same, run-of-length}
 use Rattle.rests.specs.Walk.{slotAt, Walk, Bounded}
 use Rattle.rests.proofs.Walks.{walk-from, walk-to}
 use Rattle.rests.proofs.Laid.{Has, Slots, none, next, slot-here, slot-after, in-slots}
-use Rattle.rests.proofs.Tight.{around, rejoin, filling-walk, walk-fits, total-take, slots-take, has-at, start-at}
+use Rattle.rests.proofs.Fillings.{around, rejoin, filling-walk, walk-fits, total-take, slots-take, has-at, start-at}
 use Rattle.order_sides.specs.Guide.{Guide, Keeps, Kept, Clear}
 use Rattle.order_sides.specs.Collect.{Ends, Collected}
 use Rattle.order_sides.proofs.Keeping.{clear-of, text-clear}

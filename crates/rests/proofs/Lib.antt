@@ -2,4 +2,4 @@
 pub mod Walks
 pub mod Laid
 pub mod Cut
-pub mod Tight
+pub mod Fillings

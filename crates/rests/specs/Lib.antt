@@ -1,3 +1,2 @@
 -- A shape read one character at a time, by position, and two shapes read together.
 pub mod Walk
-pub mod Collect

@@ -17,7 +17,7 @@ use Rattle.shapes.specs.Lent.{shapeOf, blockAt}
 use Rattle.shapes.proofs.Lent.{shape-length, shape-at}
 use Rattle.rests.specs.Walk.{lessen, past, slotAt}
 use Rattle.rests.proofs.Laid.{slots, slot-after}
-use Rattle.rests.proofs.Tight.{total-take, has-at, start-at}
+use Rattle.rests.proofs.Fillings.{total-take, has-at, start-at}
 use Rattle.rows.specs.Row.{rowIn, PutRow}
 use Rattle.rows.specs.Steps.{InTurn, Matched}
 use Rattle.rows.proofs.Rows.{rows-more}

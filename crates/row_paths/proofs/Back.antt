@@ -1,5 +1,5 @@
 -- One row to the ends, and what it adds to what is gathered. Assumes nothing.
-use mathlib.Core.Path.{_≡_, refl, sym, _∙_, subst}
+use mathlib.Core.Path.{_≡_, refl, sym, subst}
 use mathlib.Core.Bool.{Bool, true, false, not, true≢false}
 use mathlib.Core.Logic.{_⊎_, inl, inr, ⊎-elim}
 use Prim.Native.Nat.{ℕ, _+_, _-_, _/_, _≤_, _<_}
@@ -11,28 +11,27 @@ use Rattle.bases.specs.Base.{Holds, Empty, Meets}
 use Rattle.bases.specs.Tells.{Tells}
 use Rattle.bases.proofs.Laws.{none-in-zero}
 use Rattle.bases.proofs.Plain.{lt-or-le, eq-or-ne}
-use Rattle.bases.proofs.Sets as bits
-use Rattle.bases.proofs.Sets.{meets-of}
+use Rattle.bases.proofs.Sets.{some-held}
 use Rattle.sets.specs.Set.{Exactly}
 use Rattle.sets.proofs.Exact.{exactly-as, exactly-at, none-exactly, both-exactly, either-exactly, down-exactly}
 use Rattle.shapes.specs.Shape.{Block}
-use Rattle.rests.specs.Walk.{Path, second}
-use Rattle.rests.proofs.Walks.{turn-path}
+use Rattle.pads.specs.Pad.{PadPath, after, Roomy}
+use Rattle.pads.proofs.Paths.{after-on, after-stays, turn-pad}
 use Rattle.rows.specs.Steps.{Leads, Lands}
-use Rattle.row_paths.specs.Rows.{Zones, BlockIn, LeadsOn, end, ended, taken, Quits, Takes, From, Seen, Used, Gathered}
+use Rattle.row_paths.specs.Rows.{Zones, Shares, Into, Inwards, BlockIn, LeadsOn, end, ended, taken, Quits, Takes, From, Seen, Used, Gathered}
 use Rattle.row_paths.proofs.Left.{left-row}
-use Rattle.row_paths.proofs.Forth.{slot-base, slot-lower, slot-upper}
+use Rattle.row_paths.proofs.Forth.{slot-base, slot-lower, slot-upper, block-on}
 
 pub turn-meets : {a b : ℕ} → Meets a b → Meets b a
 turn-meets m = record { shared = m .shared; first = m .second; second = m .first }
 
 pub turn-takes : {X Y : ℕ → Block} {U W h j : ℕ} → Takes X Y U W h j → Takes Y X W U j h
-turn-takes t = record { reached = turn-path (t .reached); meets = turn-meets (t .meets); on = turn-path (t .on) }
+turn-takes t = record { reached = turn-pad (t .reached); meets = turn-meets (t .meets); on = turn-pad (t .on) }
 
 -- ---- where runs of Y end early and land in the row
 
 module _ {X Y : ℕ → Block} {U W : ℕ} {Z E : ℕ → ℕ} {k : ℕ} (z : Zones Y Z E k) where
-  pub quits-here : {i row cut f : ℕ} {u : ℕ} → Exactly row (λ j. Path X Y U W i j) → Exactly cut (Lands Z E k row) → Exactly f (λ j. Path X Y i j 0 0) → u ≡ bitAnd f cut
+  pub quits-here : {i row cut f : ℕ} {u : ℕ} → Exactly row (λ j. PadPath X Y U W i j) → Exactly cut (Lands Z E k row) → Exactly f (λ j. PadPath X Y i j 0 0) → u ≡ bitAnd f cut
       → Exactly u (λ j. Quits Y X W U j i)
   quits-here {i} {row} {cut} {f} x y g e = exactly-as to from (both-exactly f cut e)
     where
@@ -41,12 +40,12 @@ module _ {X Y : ℕ → Block} {U W : ℕ} {Z E : ℕ → ℕ} {k : ℕ} (z : Zo
           let l = y .so j (h .1) in
           let m = l .to in
           let at = z .stop (l .number) j (m .shared) (l .below) (l .from) (m .first) in
-          record { reached = turn-path (g .so j (h .0)); free = z .free (l .number) j (l .below) (l .from); on = turn-path (subst (λ (q : ℕ). Path X Y U W i q) at (x .so (m .shared) (m .second))) }
+          record { reached = turn-pad (g .so j (h .0)); free = z .free (l .number) j (l .below) (l .from); on = turn-pad (subst (λ (q : ℕ). PadPath X Y U W i q) at (x .so (m .shared) (m .second))) }
 
       from : (j : ℕ) → Quits Y X W U j i → Holds f j × Holds cut j
       from j q =
           let r = z .find j (q .free) in
-          (g .mark j (turn-path (q .reached)), y .mark j (record { number = r .0; below = r .1; from = r .2; to = record { shared = _; first = r .3; second = x .mark _ (turn-path (q .on)) } }))
+          (g .mark j (turn-pad (q .reached)), y .mark j (record { number = r .0; below = r .1; from = r .2; to = record { shared = _; first = r .3; second = x .mark _ (turn-pad (q .on)) } }))
 
 -- ---- one more row: what has P at i, or P from i + 1 on, has it from i on
 
@@ -82,18 +81,54 @@ seen-more P i s u {A} f g x y = exactly-as to from x
 
 -- ---- one row of a block
 
+-- one character, backwards: Y goes on, or it has ended and waits
+shared-into : {Y : ℕ → Block} {base : ℕ} (row on waits d a w : ℕ) {r : ℕ} → Shares Y base on waits → d ≡ row / 2 → a ≡ bitAnd d on → w ≡ bitAnd row waits → r ≡ bitOr a w
+    → Exactly r (Into Y base row)
+shared-into {Y} {base} row on waits d a w y e f g h = exactly-as to from (either-exactly a w h)
+  where
+    to : (j : ℕ) → Holds a j ⊎ Holds w j → Into Y base row j
+    to j c = ⊎-elim
+        (λ q.
+        let l = both-exactly d on f .so j q in
+        let m = y .goes .so j (l .1) in
+        record { meets = m .0; lands = subst (Holds row) (sym (after-on Y j (m .1))) (down-exactly row e .so j (l .0)) })
+        (λ q.
+        let l = both-exactly row waits g .so j q in
+        let m = y .stays .so j (l .1) in
+        record { meets = m .0; lands = subst (Holds row) (sym (after-stays Y j (m .1))) (l .0) })
+        c
+
+    from : (j : ℕ) → Into Y base row j → Holds a j ⊎ Holds w j
+    from j n = ⊎-elim
+        (λ none.
+        let stays : Y j .upper ≡ 0 = omega arith in
+        inr (both-exactly row waits g .mark j (subst (Holds row) (after-stays Y j stays) (n .lands), y .stays .mark j (n .meets, stays))))
+        (λ room.
+        inl (both-exactly d on f .mark j (down-exactly row e .mark j (subst (Holds row) (after-on Y j room) (n .lands)), y .goes .mark j (n .meets, room))))
+        (lt-or-le (Y j .upper) 1)
+
+pub inwards : (row on waits d a w : ℕ) {r : ℕ} → d ≡ row / 2 → a ≡ bitAnd d on → w ≡ bitAnd row waits → r ≡ bitOr a w → Inwards row on waits r
+inwards row on waits d a w e f g h = record { holds = λ Y base y. shared-into row on waits d a w y e f g h }
+
+-- where Y has no padding it never waits
+pub inwards-plain : {Y : ℕ → Block} {base : ℕ} → Roomy Y → (row on d : ℕ) {r : ℕ} → Exactly on (λ q. Meets base (Y q .base)) → d ≡ row / 2 → r ≡ bitAnd d on → Exactly r (Into Y base row)
+inwards-plain {Y} y row on d x e f = exactly-as
+    (λ j h. let m = x .so j (h .1) in record { meets = m; lands = subst (Holds row) (sym (after-on Y j (y .has j (m .shared) (m .second)))) (down-exactly row e .so j (h .0)) })
+    (λ j n. let m = n .meets in (down-exactly row e .mark j (subst (Holds row) (after-on Y j (y .has j (m .shared) (m .second))) (n .lands)), x .mark j m))
+    (both-exactly d on f)
+
 module _ {X Y : ℕ → Block} {U W p : ℕ} {b : Block} (k : BlockIn X p b) (fits : p + b .upper ≤ U) (o : ℕ) (small : o < b .upper) where
   -- what is led to by one character of both
-  pub taken-row : (next mine : ℕ) {d t : ℕ} → Exactly next (λ j. Path X Y U W (p + o + 1) j) → Exactly mine (λ q. Meets (b .base) (Y q .base)) → d ≡ next / 2 → t ≡ bitAnd d mine
-      → Exactly t (λ j. Meets (X (p + o) .base) (Y j .base) × Path X Y U W (p + o + 1) (j + 1))
-  taken-row next mine {d} x y e f = exactly-as
-      (λ j h. (subst (λ (a : ℕ). Meets a (Y j .base)) (sym (slot-base k o small)) (y .so j (h .1)), x .so (j + 1) (down-exactly next e .so j (h .0))))
-      (λ j h. (down-exactly next e .mark j (x .mark (j + 1) (h .1)), y .mark j (subst (λ (a : ℕ). Meets a (Y j .base)) (slot-base k o small) (h .0))))
-      (both-exactly d mine f)
+  pub taken-row : (next : ℕ) {t : ℕ} → Exactly next (λ j. PadPath X Y U W (p + o + 1) j) → Exactly t (Into Y (b .base) next)
+      → Exactly t (λ j. Meets (X (p + o) .base) (Y j .base) × PadPath X Y U W (after X (p + o)) (after Y j))
+  taken-row next x y = exactly-as
+      (λ j h. (subst (λ (a : ℕ). Meets a (Y j .base)) (sym (slot-base k o small)) (h .meets), subst (λ (i : ℕ). PadPath X Y U W i (after Y j)) (block-on k o small) (x .so (after Y j) (h .lands))))
+      (λ j h. record { meets = subst (λ (a : ℕ). Meets a (Y j .base)) (slot-base k o small) (h .0); lands = x .mark (after Y j) (subst (λ (i : ℕ). PadPath X Y U W i (after Y j)) (sym (block-on k o small)) (h .1)) })
+      y
 
   -- the run may end there
-  pub leaves-free : (t stop : ℕ) {u : ℕ} → b .lower ≤ o → Exactly t (λ j. Meets (X (p + o) .base) (Y j .base) × Path X Y U W (p + o + 1) (j + 1))
-      → Exactly stop (λ j. Path X Y U W (p + b .upper) j) → u ≡ bitOr t stop → Exactly u (LeadsOn X Y U W (p + o))
+  pub leaves-free : (t stop : ℕ) {u : ℕ} → b .lower ≤ o → Exactly t (λ j. Meets (X (p + o) .base) (Y j .base) × PadPath X Y U W (after X (p + o)) (after Y j))
+      → Exactly stop (λ j. PadPath X Y U W (p + b .upper) j) → u ≡ bitOr t stop → Exactly u (LeadsOn X Y U W (p + o))
   leaves-free t stop l x y e = exactly-as to from (either-exactly t stop e)
     where
       low : X (p + o) .lower ≡ 0
@@ -103,24 +138,24 @@ module _ {X Y : ℕ → Block} {U W p : ℕ} {b : Block} (k : BlockIn X p b) (fi
       at = let a = slot-upper k o small in omega arith
 
       to : (j : ℕ) → Holds t j ⊎ Holds stop j → LeadsOn X Y U W (p + o) j
-      to j h = ⊎-elim (λ a. let w = x .so j a in taken (w .0) (w .1)) (λ a. ended low (subst (λ (i : ℕ). Path X Y U W i j) at (y .so j a))) h
+      to j h = ⊎-elim (λ a. let w = x .so j a in taken (w .0) (w .1)) (λ a. ended low (subst (λ (i : ℕ). PadPath X Y U W i j) at (y .so j a))) h
 
       from : (j : ℕ) → LeadsOn X Y U W (p + o) j → Holds t j ⊎ Holds stop j
       from j (end i f) = absurd (omega arith)
-      from j (ended g w) = inr (y .mark j (subst (λ (i : ℕ). Path X Y U W i j) (sym at) w))
+      from j (ended g w) = inr (y .mark j (subst (λ (i : ℕ). PadPath X Y U W i j) (sym at) w))
       from j (taken m w) = inl (x .mark j (m, w))
 
   -- it may not
-  pub leaves-bound : {t : ℕ} → o < b .lower → Exactly t (λ j. Meets (X (p + o) .base) (Y j .base) × Path X Y U W (p + o + 1) (j + 1)) → Exactly t (LeadsOn X Y U W (p + o))
+  pub leaves-bound : {t : ℕ} → o < b .lower → Exactly t (λ j. Meets (X (p + o) .base) (Y j .base) × PadPath X Y U W (after X (p + o)) (after Y j)) → Exactly t (LeadsOn X Y U W (p + o))
   leaves-bound {t} l x = exactly-as (λ j w. taken (w .0) (w .1)) from x
     where
-      from : (j : ℕ) → LeadsOn X Y U W (p + o) j → Meets (X (p + o) .base) (Y j .base) × Path X Y U W (p + o + 1) (j + 1)
+      from : (j : ℕ) → LeadsOn X Y U W (p + o) j → Meets (X (p + o) .base) (Y j .base) × PadPath X Y U W (after X (p + o)) (after Y j)
       from j (end i f) = absurd (omega arith)
       from j (ended g w) = let a = slot-lower k o small in absurd (omega arith)
       from j (taken m w) = (m, w)
 
 -- what both take there
-pub takes-here : {X Y : ℕ → Block} {U W i : ℕ} (f t : ℕ) {u : ℕ} → Exactly f (λ j. Path X Y i j 0 0) → Exactly t (λ j. Meets (X i .base) (Y j .base) × Path X Y U W (i + 1) (j + 1)) → u ≡ bitAnd f t
+pub takes-here : {X Y : ℕ → Block} {U W i : ℕ} (f t : ℕ) {u : ℕ} → Exactly f (λ j. PadPath X Y i j 0 0) → Exactly t (λ j. Meets (X i .base) (Y j .base) × PadPath X Y U W (after X i) (after Y j)) → u ≡ bitAnd f t
     → Exactly u (λ j. Takes X Y U W i j)
 takes-here f t x y e = exactly-as
     (λ j h. let w = y .so j (h .1) in record { reached = x .so j (h .0); meets = w .0; on = w .1 })
@@ -144,12 +179,11 @@ used-more {X} {Y} {U} {W} {i} {e} s t l d x y = exactly-as to from (either-exact
 
 -- the row there: closed under the ends of runs of Y
 pub row-before : {X Y : ℕ → Block} {U W : ℕ} {Z E : ℕ → ℕ} {m p : ℕ} {b : Block} → Zones Y Z E m → BlockIn X p b → p + b .upper ≤ U
-    → (o mine stop next d step seeds : ℕ) {row : ℕ} → o < b .upper → Exactly mine (λ q. Meets (b .base) (Y q .base))
-    → Exactly stop (λ j. Path X Y U W (p + b .upper) j) → Exactly next (λ j. Path X Y U W (p + o + 1) j)
-    → d ≡ next / 2 → step ≡ bitAnd d mine → (leb (b .lower) o ≡ true → seeds ≡ bitOr step stop) → (leb (b .lower) o ≡ false → seeds ≡ step)
-    → Exactly row (Leads Z E m seeds) → Exactly row (λ j. Path X Y U W (p + o) j)
-row-before {b = b} z k fits o mine stop next d step seeds small m y x de se on off ro =
-    let stepped = taken-row k fits o small next mine x m de se in
+    → (o stop next step seeds : ℕ) {row : ℕ} → o < b .upper → Exactly stop (λ j. PadPath X Y U W (p + b .upper) j) → Exactly next (λ j. PadPath X Y U W (p + o + 1) j)
+    → Exactly step (Into Y (b .base) next) → (leb (b .lower) o ≡ true → seeds ≡ bitOr step stop) → (leb (b .lower) o ≡ false → seeds ≡ step)
+    → Exactly row (Leads Z E m seeds) → Exactly row (λ j. PadPath X Y U W (p + o) j)
+row-before {b = b} z k fits o stop next step seeds small y x se on off ro =
+    let stepped = taken-row k fits o small next x se in
     left-row z
     (⊎-elim
     (λ c. exactly-at (off (lt-leb (b .lower) o c)) (leaves-bound k fits o small c stepped))
@@ -170,31 +204,40 @@ false-not : (r : Bool) → (r ≡ true → ⊥) → not r ≡ true
 false-not true n = absurd (n refl)
 false-not false n = refl
 
+-- a set that is not empty has something taken in it
+pub some-taken : (here : ℕ) (bare : Bool) {P : ℕ → Type 0} → Tells bare (Empty here) → Exactly here P → not bare ≡ true → (q : ℕ) × P q
+some-taken here bare tb x e =
+    let s = some-held here (λ v. tb .not-so (not-true bare e) (subst Empty (sym v) none-in-zero)) in
+    (s .0, x .so (s .0) (s .1))
+
+pub none-taken : (here : ℕ) (bare : Bool) {P : ℕ → Type 0} → Tells bare (Empty here) → Exactly here P → (q : ℕ) → P q → not bare ≡ true
+none-taken here bare tb x q w = false-not bare (λ e. unfold Empty in (tb .so e q (x .mark q w)))
+
 module _ {X Y : ℕ → Block} {U W : ℕ} {Z E : ℕ → ℕ} {m p : ℕ} {b : Block} (z : Zones Y Z E m) (k : BlockIn X p b) (fits : p + b .upper ≤ U) where
-  pub gathered-more : (o f mine stop next d step here seeds row cut early-cut used quit own-quit own-moved : ℕ) {used′ quit′ own-quit′ own-moved′ : ℕ} (early bare : Bool) → o < b .upper
-      → Exactly mine (λ q. Meets (b .base) (Y q .base)) → Exactly f (λ j. Path X Y (p + o) j 0 0) → Exactly stop (λ j. Path X Y U W (p + b .upper) j)
+  pub gathered-more : (o f stop next step here seeds row cut early-cut used quit own-quit own-moved : ℕ) {used′ quit′ own-quit′ own-moved′ : ℕ} (early bare : Bool) → o < b .upper
+      → Exactly f (λ j. PadPath X Y (p + o) j 0 0) → Exactly stop (λ j. PadPath X Y U W (p + b .upper) j)
       → Gathered X Y U W (p + o + 1) (p + b .upper) next used quit own-quit own-moved
-      → d ≡ next / 2 → step ≡ bitAnd d mine → here ≡ bitAnd f step → (leb (b .lower) o ≡ true → seeds ≡ bitOr step stop) → (leb (b .lower) o ≡ false → seeds ≡ step)
+      → Exactly step (Into Y (b .base) next) → here ≡ bitAnd f step → (leb (b .lower) o ≡ true → seeds ≡ bitOr step stop) → (leb (b .lower) o ≡ false → seeds ≡ step)
       → Exactly row (Leads Z E m seeds) → Exactly cut (Lands Z E m row) → used′ ≡ bitOr used here → early-cut ≡ bitAnd f cut → quit′ ≡ bitOr quit early-cut
       → Tells early ((leb (b .lower) o ≡ true) × Meets f stop) → Exactly own-quit′ (λ e. Holds own-quit e ⊎ ((early ≡ true) × (e ≡ p + o)))
       → Tells bare (Empty here) → Exactly own-moved′ (λ e. Holds own-moved e ⊎ ((not bare ≡ true) × (e ≡ p + o)))
       → Gathered X Y U W (p + o) (p + b .upper) row used′ quit′ own-quit′ own-moved′
-  gathered-more o f mine stop next d step here seeds row cut early-cut used quit own-quit own-moved {used′} {quit′} {own-quit′} {own-moved′} early bare small m x y g de se he on off ro cu ue ec qe te qx tb mx = record {
+  gathered-more o f stop next step here seeds row cut early-cut used quit own-quit own-moved {used′} {quit′} {own-quit′} {own-moved′} early bare small x y g se he on off ro cu ue ec qe te qx tb mx = record {
     row-is = rowed;
     used-is = used-more used here (omega arith) ue (g .used-is) took;
     quit-is = quit-more quit early-cut qe (g .quit-is) (quits-here z rowed cu x ec);
     own-quit-is = seen-more (Quits X Y U W) (p + o) own-quit own-quit′ ends (λ q w. so-true early te (ends-back q w)) qx (g .own-quit-is);
-    own-moved-is = seen-more (Takes X Y U W) (p + o) own-moved own-moved′ moves (λ q w. false-not bare (λ e. unfold Empty in (tb .so e q (took .mark q w)))) mx (g .own-moved-is);
+    own-moved-is = seen-more (Takes X Y U W) (p + o) own-moved own-moved′ (some-taken here bare tb took) (none-taken here bare tb took) mx (g .own-moved-is);
   }
     where
-      stepped : Exactly step (λ j. Meets (X (p + o) .base) (Y j .base) × Path X Y U W (p + o + 1) (j + 1))
-      stepped = taken-row k fits o small next mine (g .row-is) m de se
+      stepped : Exactly step (λ j. Meets (X (p + o) .base) (Y j .base) × PadPath X Y U W (after X (p + o)) (after Y j))
+      stepped = taken-row k fits o small next (g .row-is) se
 
       took : Exactly here (λ j. Takes X Y U W (p + o) j)
       took = takes-here f step x stepped he
 
-      rowed : Exactly row (λ j. Path X Y U W (p + o) j)
-      rowed = row-before z k fits o mine stop next d step seeds small m y (g .row-is) de se on off ro
+      rowed : Exactly row (λ j. PadPath X Y U W (p + o) j)
+      rowed = row-before z k fits o stop next step seeds small y (g .row-is) se on off ro
 
       at : p + b .upper ≡ p + o + X (p + o) .upper
       at = let a = slot-upper k o small in omega arith
@@ -205,18 +248,13 @@ module _ {X Y : ℕ → Block} {U W : ℕ} {Z E : ℕ → ℕ} {m p : ℕ} {b : 
           let h = w .1 in
           let l = leb-true (b .lower) o (w .0) in
           let a = slot-lower k o small in
-          (h .shared, record { reached = x .so (h .shared) (h .first); free = omega arith; on = subst (λ (i : ℕ). Path X Y U W i (h .shared)) at (y .so (h .shared) (h .second)) })
+          (h .shared, record { reached = x .so (h .shared) (h .first); free = omega arith; on = subst (λ (i : ℕ). PadPath X Y U W i (h .shared)) at (y .so (h .shared) (h .second)) })
 
       ends-back : (q : ℕ) → Quits X Y U W (p + o) q → (leb (b .lower) o ≡ true) × Meets f stop
       ends-back q w =
           let a = slot-lower k o small in
           let l = w .free in
-          (le-leb (b .lower) o (omega arith), record { shared = q; first = x .mark q (w .reached); second = y .mark q (subst (λ (i : ℕ). Path X Y U W i q) (sym at) (w .on)) })
-
-      moves : not bare ≡ true → (q : ℕ) × Takes X Y U W (p + o) q
-      moves e =
-          let s = meets-of f step (λ v. tb .not-so (not-true bare e) (subst Empty (sym (he ∙ v)) none-in-zero)) in
-          (s .shared, took .so (s .shared) (subst (λ (v : ℕ). Holds v (s .shared)) (sym he) (bits.both f step (s .shared) (s .first) (s .second))))
+          (le-leb (b .lower) o (omega arith), record { shared = q; first = x .mark q (w .reached); second = y .mark q (subst (λ (i : ℕ). PadPath X Y U W i q) (sym at) (w .on)) })
 
 -- ---- before the last row, and at a block's start
 

@@ -1,45 +1,67 @@
 -- The characters that blocks are given, block by block of the first shape; before the first and after the last. Assumes nothing.
-use mathlib.Core.Path.{_≡_, refl, sym, subst}
+use mathlib.Core.Path.{_≡_, refl, sym, ap, _∙_, subst}
+use mathlib.Core.Bool.{Bool, true, false, not}
 use mathlib.Core.Logic.{_⊎_, inl, inr, ⊎-elim}
-use Prim.Native.Nat.{ℕ, _-_, _≤_, _<_}
+use Prim.Native.Nat.{ℕ, _+_, _≤_, _<_}
 use native.Mathlib.Omega.{arith}
 use lib.Bits.{bitAnd, bitOr}
-use Rattle.bases.specs.Base.{Holds}
+use Rattle.bases.specs.Base.{Holds, Empty, Meets}
+use Rattle.bases.specs.Tells.{Tells}
 use Rattle.bases.proofs.Plain.{lt-or-le}
 use Rattle.sets.specs.Set.{Exactly}
-use Rattle.sets.proofs.Exact.{exactly-as, none-exactly, either-exactly}
+use Rattle.sets.proofs.Exact.{exactly-as, exactly-at, none-exactly, both-exactly, either-exactly}
 use Rattle.shapes.specs.Shape.{Block}
-use Rattle.rests.specs.Walk.{Path, Bounded}
-use Rattle.rows.specs.Steps.{Leads, Lands, Matched, Given}
-use Rattle.row_paths.specs.Rows.{Zones, LeadsOn, end, ended, taken, Quits, Takes, From, Seen, Used, Gives, Gathered}
-use Rattle.row_paths.proofs.Left.{left-row}
-use Rattle.row_paths.proofs.Back.{turn-takes, quits-here, used-none}
-use Rattle.row_paths.proofs.Told.{within-other}
+use Rattle.pads.specs.Pad.{after, PadPath, Ending, Along}
+use Rattle.pads.proofs.Paths.{after-stays, turn-pad}
+use Rattle.rows.specs.Steps.{Matched, Given}
+use Rattle.row_paths.specs.Rows.{Quits, Takes, From, Seen, Used, Gives, Gathered}
+use Rattle.row_paths.proofs.Reached.{along-path, path-along, left-last, pad-within}
+use Rattle.row_paths.proofs.Back.{turn-takes, seen-more, some-taken, none-taken}
 
 -- S has the slots of Y block by block, B their bases
 pub record SlotRows (Y : ℕ → Block) (B S : ℕ → ℕ) (k : ℕ) : Type 0 where
   pub base : (j q : ℕ) → j < k → Holds (S j) q → Y q .base ≡ B j
   pub find : (q c : ℕ) → Holds (Y q .base) c → (j : ℕ) × (j < k) × Holds (S j) q
 
-module _ {X Y : ℕ → Block} {U W : ℕ} where
-  -- the characters of the block that has used some positions of Y
-  pub joined-gives : {B S : ℕ → ℕ} {k i e used c : ℕ} → SlotRows Y B S k → Exactly used (Used X Y U W i e) → Exactly c (Matched S B k used) → Exactly c (Gives X Y U W i e 0)
-  joined-gives {B} {S} {k} {i} {e} {used} s x y = exactly-as to from y
-    where
-      to : (c : ℕ) → Matched S B k used c → Gives X Y U W i e 0 c
-      to c m =
-          let w = m .meets in
-          record { other = w .shared; past = omega arith; used = x .so (w .shared) (w .first); holds = subst (λ (v : ℕ). Holds v c) (sym (s .base (m .number) (w .shared) (m .below) (w .second))) (m .held) }
+-- the same with padding at the end W
+pub record PaddedRows (Y : ℕ → Block) (B S : ℕ → ℕ) (k pad W : ℕ) : Type 0 where
+  pub base : (j q : ℕ) → j < k → Holds (S j) q → Y q .base ≡ B j
+  pub find : (q c : ℕ) → Holds (Y q .base) c → ((j : ℕ) × (j < k) × Holds (S j) q) ⊎ (q ≡ W)
+  pub last : Y W .base ≡ pad
 
-      from : (c : ℕ) → Gives X Y U W i e 0 c → Matched S B k used c
-      from c g =
-          let f = s .find (g .other) c (g .holds) in
-          record {
+-- a set that is added where it counts
+added : {c : ℕ} (m pad : ℕ) {P : Type 0} {r : Bool} → Tells r P → (r ≡ true → c ≡ bitOr m pad) → (r ≡ false → c ≡ m) → Exactly c (λ x. Holds m x ⊎ (P × Holds pad x))
+added m pad {r = true} t f g = exactly-as (λ x h. ⊎-elim inl (λ a. inr (t .so refl, a)) h) (λ x h. ⊎-elim inl (λ a. inr (a .1)) h) (either-exactly m pad (f refl))
+added m pad {r = false} t f g = exactly-at (g refl) (record { so = λ x h. inl h; mark = λ x h. ⊎-elim (λ a. a) (λ a. absurd (t .not-so refl (a .0))) h })
+
+module _ {X Y : ℕ → Block} {U W : ℕ} where
+  -- the characters of the block that has used some positions of Y, its end among them
+  pub joined-gives : {B S : ℕ → ℕ} {k pad i e used c m : ℕ} {r : Bool} → PaddedRows Y B S k pad W → Exactly used (Used X Y U W i e) → Exactly m (Matched S B k used)
+      → Tells r (Holds used W) → (r ≡ true → c ≡ bitOr m pad) → (r ≡ false → c ≡ m) → Exactly c (Gives X Y U W i e 0)
+  joined-gives {B} {S} {k} {pad} {i} {e} {used} {c} {m} s x y t f g = exactly-as to from (added m pad t f g)
+    where
+      to : (c : ℕ) → Holds m c ⊎ (Holds used W × Holds pad c) → Gives X Y U W i e 0 c
+      to c h = ⊎-elim
+          (λ a.
+          let n = y .so c a in
+          let w = n .meets in
+          record { other = w .shared; past = omega arith; used = x .so (w .shared) (w .first); holds = subst (λ (v : ℕ). Holds v c) (sym (s .base (n .number) (w .shared) (n .below) (w .second))) (n .held) })
+          (λ a. record { other = W; past = omega arith; used = x .so W (a .0); holds = subst (λ (v : ℕ). Holds v c) (sym (s .last)) (a .1) })
+          h
+
+      from : (c : ℕ) → Gives X Y U W i e 0 c → Holds m c ⊎ (Holds used W × Holds pad c)
+      from c g = ⊎-elim
+          (λ f. inl (y .mark c (record {
             number = f .0;
             below = f .1;
             meets = record { shared = g .other; first = x .mark (g .other) (g .used); second = f .2 };
             held = subst (λ (v : ℕ). Holds v c) (s .base (f .0) (g .other) (f .1) (f .2)) (g .holds);
-          }
+          })))
+          (λ f. inr (
+            subst (Holds used) f (x .mark (g .other) (g .used)),
+            subst (λ (v : ℕ). Holds v c) (s .last) (subst (λ (q : ℕ). Holds (Y q .base) c) f (g .holds)),
+          ))
+          (s .find (g .other) c (g .holds))
 
   -- what a block of Y is given by one more block of X, from p to e
   pub given-more : {S A A′ : ℕ → ℕ} {k used base p e : ℕ} (j st en : ℕ) → j < k → p ≤ e → Given S k used base A A′ → Exactly used (Used X Y U W p e) → ((h : ℕ) → p ≤ h → h < e → X h .base ≡ base)
@@ -90,42 +112,66 @@ module _ {X Y : ℕ → Block} {U W : ℕ} where
           (λ l. inl (x .mark j (record { number = f .number; from = l; has = f .has })))
           (lt-or-le (f .number) e)
 
-  -- ---- at the end of X, where nothing is taken and no run ends
+-- ---- at the end of X, where it waits while Y goes on over padding
 
-  module _ (free : (h : ℕ) → X h .lower ≡ 0 → h < U) (held : (h c : ℕ) → Holds (X h .base) c → h < U) where
-    no-takes : {h j : ℕ} → U ≤ h → Takes X Y U W h j → ⊥
-    no-takes {h} l t = let m = t .meets in let g = held h (m .shared) (m .first) in omega arith
+-- nothing is reached beyond it
+none-beyond : {X Y : ℕ → Block} {U h j : ℕ} → Ending X U → U < h → PadPath X Y h j 0 0 → ⊥
+none-beyond own l p = let w = pad-within own (turn-pad p) (omega arith) in omega arith
 
-    pub given-none : {a st en : ℕ} → a ≡ 0 → Exactly a (Gives Y X W U st en U)
-    given-none z = none-exactly z (λ c w. let g = held (w .other) c (w .holds) in let l = w .past in omega arith)
+at-most-end : {X Y : ℕ → Block} {U h j : ℕ} → Ending X U → U ≤ h → PadPath X Y h j 0 0 → h ≡ U
+at-most-end own l p = let w = pad-within own (turn-pad p) (omega arith) in omega arith
 
-    pub moved-none : {a : ℕ} → a ≡ 0 → Exactly a (λ j. From U (λ h. Takes Y X W U j h))
-    moved-none z = none-exactly z (λ j f. no-takes (f .from) (turn-takes (f .has)))
+module _ {X Y : ℕ → Block} {U W pad : ℕ} (own : Ending X U) (padding : X U .base ≡ pad) where
+  -- there Y takes padding
+  pub taken-last : (f t : ℕ) {u : ℕ} → Exactly f (λ j. PadPath X Y U j 0 0) → Exactly t (λ q. Meets pad (Y q .base) × Along Y pad W (after Y q)) → u ≡ bitAnd f t
+      → Exactly u (λ j. Takes X Y U W U j)
+  taken-last f t x y e = exactly-as
+      (λ j h. let w = y .so j (h .1) in record {
+        reached = x .so j (h .0);
+        meets = subst (λ (v : ℕ). Meets v (Y j .base)) (sym padding) (w .0);
+        on = subst (λ (i : ℕ). PadPath X Y U W i (after Y j)) (sym (after-stays X U (own .no-room))) (along-path own padding (w .1));
+      })
+      (λ j k. (x .mark j (k .reached), y .mark j (subst (λ (v : ℕ). Meets v (Y j .base)) padding (k .meets), path-along own padding (k .on) (after-stays X U (own .no-room)))))
+      (both-exactly f t e)
 
-    -- the row there is what runs of Y that end lead to W from
-    pub row-last : {Z E : ℕ → ℕ} {k s row : ℕ} → Zones Y Z E k → Exactly s (λ e. e ≡ W) → Exactly row (Leads Z E k s) → Exactly row (λ j. Path X Y U W U j)
-    row-last z x ro = left-row z (exactly-as (λ j h. end refl h) leaves x) ro
+  module _ (u : ℕ) (taken : Exactly u (λ j. Takes X Y U W U j)) where
+    -- the padding is as one block more
+    used-last : Exactly u (Used X Y U W U (U + 1))
+    used-last = exactly-as (λ q t. record { number = U; from = omega arith; before = omega arith; takes = t }) at-end taken
       where
-        leaves : (j : ℕ) → LeadsOn X Y U W U j → j ≡ W
-        leaves j (end i f) = f
-        leaves j (ended g w) = let l = free U g in absurd (omega arith)
-        leaves j (taken m w) = let l = held U (m .shared) (m .first) in absurd (omega arith)
+        at-end : (q : ℕ) → Used X Y U W U (U + 1) q → Takes X Y U W U q
+        at-end q v = let from = v .from in let before = v .before in subst (λ (h : ℕ). Takes X Y U W h q) (let z : v .number ≡ U = omega arith in z) (v .takes)
 
-    pub gathered-last : {Z E : ℕ → ℕ} {k s row cut f quit a b c : ℕ} → Zones Y Z E k → Bounded X U → Exactly s (λ e. e ≡ W) → Exactly row (Leads Z E k s) → Exactly cut (Lands Z E k row)
-        → Exactly f (λ j. Path X Y U j 0 0) → quit ≡ bitAnd f cut → a ≡ 0 → b ≡ 0 → c ≡ 0 → Gathered X Y U W U U row a quit b c
-    gathered-last {row = row} z bound x ro cu y e za zb zc = record {
-      row-is = rowed;
-      used-is = used-none za;
+    pub gathered-last : (n b c : ℕ) {row cut f quit : ℕ} (bare : Bool) → ((h : ℕ) → X h .lower ≡ 0 → h < U) → Exactly row (Along Y pad W) → Exactly cut (λ q. (Y q .lower ≡ 0) × Along Y pad W (q + Y q .upper))
+        → Exactly f (λ j. PadPath X Y U j 0 0) → quit ≡ bitAnd f cut → n ≡ 0 → b ≡ 0 → Tells bare (Empty u) → Exactly c (λ e. Holds n e ⊎ ((not bare ≡ true) × (e ≡ U)))
+        → Gathered X Y U W U (U + 1) row u quit b c
+    gathered-last n b c {row} {cut} {f} bare free ro cu y e zn zb tb cx = record {
+      row-is = left-last own padding ro;
+      used-is = used-last;
       quit-is = exactly-as
-          (λ j q. record { number = U; from = omega arith; has = q })
-          (λ j f. let l = f .from in let g = within-other bound (f .has .reached) in subst (λ (h : ℕ). Quits Y X W U j h) (let at : f .number ≡ U = omega arith in at) (f .has))
-          (quits-here z rowed cu y e);
+          (λ j h. let w = cu .so j (h .1) in record { number = U; from = omega arith; has = record { reached = turn-pad (y .so j (h .0)); free = w .0; on = turn-pad (along-path own padding (w .1)) } })
+          (λ j q.
+          let w : Quits Y X W U j U = subst (λ (h : ℕ). Quits Y X W U j h) (at-most-end own (q .from) (turn-pad (q .has .reached))) (q .has) in
+          (y .mark j (turn-pad (w .reached)), cu .mark j (w .free, path-along own padding (turn-pad (w .on)) refl)))
+          (both-exactly f cut e);
       own-quit-is = none-exactly zb (λ h v. let l = v .from in let g = free h (v .has .free) in omega arith);
-      own-moved-is = none-exactly zc (λ h v. no-takes (v .from) (v .has));
+      own-moved-is = seen-more (Takes X Y U W) U n c (some-taken u bare tb taken) (none-taken u bare tb taken) cx
+          (none-exactly zn (λ h v. none-beyond own (let l = v .from in omega arith) (v .has .reached)));
     }
-      where
-        rowed : Exactly row (λ j. Path X Y U W U j)
-        rowed = row-last z x ro
+
+-- what is moved at the end, and given: from the padding used there
+module _ {X Y : ℕ → Block} {U W pad : ℕ} (own : Ending X U) (padding : X U .base ≡ pad) (u : ℕ) (used : Exactly u (Used X Y U W U (U + 1))) where
+  pub moved-last : Exactly u (λ j. From U (λ h. Takes Y X W U j h))
+  moved-last = exactly-as
+      (λ j v. record { number = v .number; from = v .from; has = turn-takes (v .takes) })
+      (λ j f. let t = turn-takes (f .has) in let at = at-most-end own (f .from) (t .reached) in record { number = f .number; from = f .from; before = omega arith; takes = t })
+      used
+
+  pub given-last : {S A A′ : ℕ → ℕ} {k : ℕ} (j st en : ℕ) → j < k → Given S k u pad A A′ → Exactly (S j) (λ q. (st ≤ q) × (q < en)) → A j ≡ 0 → Exactly (A′ j) (Gives Y X W U st en U)
+  given-last j st en l g s e = given-more {U = U} {W = W} j st en l (omega arith) g used
+      (λ h a b. ap (λ (x : ℕ). X x .base) (let z : h ≡ U = omega arith in z) ∙ padding)
+      s
+      (none-exactly e (λ c w. let u = w .used in none-beyond own (let l = w .past in omega arith) (turn-takes (u .takes) .reached)))
 
 -- ---- all rows
 

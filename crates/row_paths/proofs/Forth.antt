@@ -7,12 +7,12 @@ use lib.Bits.{bitAnd, bitOr}
 use Rattle.bases.specs.Base.{Holds, Meets}
 use Rattle.bases.proofs.Plain.{lt-or-le}
 use Rattle.bases.proofs.Sets as bits
-use Rattle.sets.specs.Set.{Exactly, OneUp}
+use Rattle.sets.specs.Set.{Exactly}
 use Rattle.sets.proofs.Exact.{exactly-as, none-exactly, both-exactly, either-exactly, up-exactly}
 use Rattle.shapes.specs.Shape.{Block}
-use Rattle.rests.specs.Walk.{Path}
-use Rattle.rests.proofs.Walks.{path-from}
-use Rattle.row_paths.specs.Rows.{Zones, BlockIn, Entered, start, ended, taken, Comes, Stops}
+use Rattle.pads.specs.Pad.{PadPath, after}
+use Rattle.pads.proofs.Paths.{after-on, after-stays}
+use Rattle.row_paths.specs.Rows.{Shares, Onto, Onwards, BlockIn, Entered, start, ended, taken, Comes, Stops}
 
 module _ {X : ℕ → Block} {p : ℕ} {b : Block} (k : BlockIn X p b) where
   pub slot-base : (o : ℕ) → o < b .upper → X (p + o) .base ≡ b .base
@@ -23,6 +23,10 @@ module _ {X : ℕ → Block} {p : ℕ} {b : Block} (k : BlockIn X p b) where
 
   pub slot-upper : (o : ℕ) → o < b .upper → X (p + o) .upper ≡ b .upper - o
   slot-upper o h = ap (λ (x : Block). x .upper) (k .slot o h)
+
+  -- it has room at its positions, so that the next is one on
+  pub block-on : (o : ℕ) → o < b .upper → p + o + 1 ≡ after X (p + o)
+  block-on o h = sym (after-on X (p + o) (let a = slot-upper o h in omega arith))
 
   -- a run that may end, and ends within the block or at its end, has begun in it and ends at its end
   pub ends-here : (h o : ℕ) → X h .lower ≡ 0 → p + o ≡ h + X h .upper → 0 < o → o ≤ b .upper → (i : ℕ) × (h ≡ p + i) × (i < b .upper) × (o ≡ b .upper) × (b .lower ≤ i)
@@ -44,7 +48,7 @@ module _ {X Y : ℕ → Block} {p : ℕ} {b : Block} (k : BlockIn X p b) where
 
   comes-entered : {o j : ℕ} → o < b .upper → Comes X Y p b o j → Entered X Y (p + o) j
   comes-entered {j = j} l (Comes.first e n) = subst (λ (x : ℕ). Entered X Y x j) (let z : p ≡ p + _ = omega arith in z) n
-  comes-entered l (Comes.taken h q e f m w) = taken (p + h) q (omega arith) f (subst (λ (x : ℕ). Meets x (Y q .base)) (sym (slot-base k h (omega arith))) m) w
+  comes-entered l (Comes.taken h q e f m w) = taken (p + h) q (omega arith) f (let u = slot-upper k h (omega arith) in omega arith) (subst (λ (x : ℕ). Meets x (Y q .base)) (sym (slot-base k h (omega arith))) m) w
 
   entered-comes : {o j : ℕ} → o < b .upper → Entered X Y (p + o) j → Comes X Y p b o j
   entered-comes {o} {j} l n = ⊎-elim
@@ -55,9 +59,9 @@ module _ {X Y : ℕ → Block} {p : ℕ} {b : Block} (k : BlockIn X p b) where
       within : Entered X Y (p + o) j → 1 ≤ o → Comes X Y p b o j
       within (start e f) z = absurd (omega arith)
       within (ended h g e w) z = let i = ends-here k h o g e z (omega arith) in let x = i .3 in absurd (omega arith)
-      within (taken h q e f m w) z =
+      within (taken h q e f r m w) z =
           let at : h ≡ p + (o - 1) = omega arith in
-          Comes.taken (o - 1) q (omega arith) f (subst (λ (x : ℕ). Meets x (Y q .base)) (ap (λ (x : ℕ). X x .base) at ∙ slot-base k (o - 1) (omega arith)) m) (subst (λ (x : ℕ). Path X Y x q 0 0) at w)
+          Comes.taken (o - 1) q (omega arith) f (subst (λ (x : ℕ). Meets x (Y q .base)) (ap (λ (x : ℕ). X x .base) at ∙ slot-base k (o - 1) (omega arith)) m) (subst (λ (x : ℕ). PadPath X Y x q 0 0) at w)
 
   pub enter-within : {s o : ℕ} → o < b .upper → Exactly s (Comes X Y p b o) → Exactly s (Entered X Y (p + o))
   enter-within l x = exactly-as (λ j c. comes-entered l c) (λ j n. entered-comes l n) x
@@ -70,7 +74,7 @@ module _ {X Y : ℕ → Block} {p : ℕ} {b : Block} (k : BlockIn X p b) where
     where
       by-last : {j : ℕ} → Comes X Y p b (b .upper) j → Entered X Y (p + b .upper) j
       by-last {j} (Comes.first e n) = subst (λ (x : ℕ). Entered X Y x j) (let z : p ≡ p + b .upper = omega arith in z) n
-      by-last (Comes.taken h q e f m w) = taken (p + h) q (omega arith) f (subst (λ (x : ℕ). Meets x (Y q .base)) (sym (slot-base k h (omega arith))) m) w
+      by-last (Comes.taken h q e f m w) = taken (p + h) q (omega arith) f (let u = slot-upper k h (omega arith) in omega arith) (subst (λ (x : ℕ). Meets x (Y q .base)) (sym (slot-base k h (omega arith))) m) w
 
       by-end : {j : ℕ} → Stops X Y p b (b .upper) j → Entered X Y (p + b .upper) j
       by-end w =
@@ -87,17 +91,52 @@ module _ {X Y : ℕ → Block} {p : ℕ} {b : Block} (k : BlockIn X p b) where
       later z (start e f) = absurd (omega arith)
       later {j} z (ended h g e w) =
           let i = ends-here k h (b .upper) g e z (omega arith) in
-          inr (y .mark j (record { number = i .0; enough = i .4; before = i .2; reached = subst (λ (x : ℕ). Path X Y x j 0 0) (i .1) w }))
-      later {j} z (taken h q e f m w) =
+          inr (y .mark j (record { number = i .0; enough = i .4; before = i .2; reached = subst (λ (x : ℕ). PadPath X Y x j 0 0) (i .1) w }))
+      later {j} z (taken h q e f r m w) =
           let o : ℕ = b .upper - 1 in
           let at : h ≡ p + o = omega arith in
-          inl (x .mark j (Comes.taken o q (omega arith) f (subst (λ (x : ℕ). Meets x (Y q .base)) (ap (λ (x : ℕ). X x .base) at ∙ slot-base k o (omega arith)) m) (subst (λ (x : ℕ). Path X Y x q 0 0) at w)))
+          inl (x .mark j (Comes.taken o q (omega arith) f (subst (λ (x : ℕ). Meets x (Y q .base)) (ap (λ (x : ℕ). X x .base) at ∙ slot-base k o (omega arith)) m) (subst (λ (x : ℕ). PadPath X Y x q 0 0) at w)))
 
       from : (j : ℕ) → Entered X Y (p + b .upper) j → Holds s j ⊎ Holds t j
       from j n = ⊎-elim
           (λ z. inl (x .mark j (Comes.first (omega arith) (subst (λ (x : ℕ). Entered X Y x j) (let y : p + b .upper ≡ p = omega arith in y) n))))
           (λ z. later z n)
           (lt-or-le (b .upper) 1)
+
+-- ---- one character: Y goes on, or it has ended and waits
+
+shared-onto : {Y : ℕ → Block} {base : ℕ} (row on waits v w : ℕ) {a r : ℕ} → Shares Y base on waits → a ≡ bitAnd row on → v ≡ a * 2 % 2 ^ 256 → w ≡ bitAnd row waits → r ≡ bitOr v w
+    → Exactly r (Onto Y base row)
+shared-onto {Y} {base} row on waits v w {a} y e f g d = exactly-as to from (either-exactly v w d)
+  where
+    to : (j : ℕ) → Holds v j ⊎ Holds w j → Onto Y base row j
+    to j h = ⊎-elim
+        (λ c.
+        let n = up-exactly a 256 f .so j c .1 in
+        let l = both-exactly row on e .so (n .number) (n .held) in
+        let m = y .goes .so (n .number) (l .1) in
+        record { from = n .number; held = l .0; meets = m .0; next = n .next ∙ sym (after-on Y (n .number) (m .1)) })
+        (λ c.
+        let l = both-exactly row waits g .so j c in
+        let m = y .stays .so j (l .1) in
+        record { from = j; held = l .0; meets = m .0; next = sym (after-stays Y j (m .1)) })
+        h
+
+    from : (j : ℕ) → Onto Y base row j → Holds v j ⊎ Holds w j
+    from j n =
+        let m = n .meets in
+        let c = y .within (n .from) (m .shared) (m .second) in
+        ⊎-elim
+        (λ none.
+        let stays : Y (n .from) .upper ≡ 0 = omega arith in
+        inr (subst (Holds w) (sym (n .next ∙ after-stays Y (n .from) stays)) (both-exactly row waits g .mark (n .from) (n .held, y .stays .mark (n .from) (m, stays)))))
+        (λ room.
+        let next : j ≡ n .from + 1 = n .next ∙ after-on Y (n .from) room in
+        inl (up-exactly a 256 f .mark j (omega arith, record { number = n .from; held = both-exactly row on e .mark (n .from) (n .held, y .goes .mark (n .from) (m, room)); next = next })))
+        (lt-or-le (Y (n .from) .upper) 1)
+
+pub onwards : (row on waits v w : ℕ) {a r : ℕ} → a ≡ bitAnd row on → v ≡ a * 2 % 2 ^ 256 → w ≡ bitAnd row waits → r ≡ bitOr v w → Onwards row on waits r
+onwards row on waits v w e f g d = record { holds = λ Y base y. shared-onto row on waits v w y e f g d }
 
 -- ---- the loop over a block's characters
 
@@ -112,25 +151,17 @@ module _ {X Y : ℕ → Block} {p : ℕ} {b : Block} where
   pub between-none : {n : ℕ} → n ≡ 0 → Exactly n (Stops X Y p b 0)
   between-none e = none-exactly e (λ j w. let h = w .before in omega arith)
 
-  pub comes-more : {Z E : ℕ → ℕ} {k : ℕ} → Zones Y Z E k → (r mine o : ℕ) {a u : ℕ} → Exactly r (λ j. Path X Y (p + o) j 0 0) → Exactly mine (λ q. Meets (b .base) (Y q .base))
-      → a ≡ bitAnd r mine → u ≡ a * 2 % 2 ^ 256 → Exactly u (Comes X Y p b (o + 1))
-  comes-more z r mine o {a} x y e f = exactly-as (λ j h. to j (h .1)) from (up-exactly a 256 f)
+  pub comes-more : (r o : ℕ) {u : ℕ} → Exactly r (λ j. PadPath X Y (p + o) j 0 0) → Exactly u (Onto Y (b .base) r) → Exactly u (Comes X Y p b (o + 1))
+  comes-more r o x y = exactly-as (λ j n. Comes.taken o (n .from) refl (n .next) (n .meets) (x .so (n .from) (n .held))) from y
     where
-      held : Exactly a (λ j. Holds r j × Holds mine j)
-      held = both-exactly r mine e
-
-      to : (j : ℕ) → OneUp a j → Comes X Y p b (o + 1) j
-      to j u = let h = held .so (u .number) (u .held) in Comes.taken o (u .number) refl (u .next) (y .so (u .number) (h .1)) (x .so (u .number) (h .0))
-
-      from : (j : ℕ) → Comes X Y p b (o + 1) j → (j < 256) × OneUp a j
+      from : (j : ℕ) → Comes X Y p b (o + 1) j → Onto Y (b .base) r j
       from j (Comes.first e n) = absurd (omega arith)
       from j (Comes.taken h l e f m w) =
-          let c = z .within l (m .shared) (m .second) in
           let at : p + h ≡ p + o = omega arith in
-          (omega arith, record { number = l; held = held .mark l (x .mark l (path-from refl refl (subst (λ (x : ℕ). Path X Y x l 0 0) at w)), y .mark l m); next = f })
+          record { from = l; held = x .mark l (subst (λ (q : ℕ). PadPath X Y q l 0 0) at w); meets = m; next = f }
 
   -- a row that counts, and one that does not
-  pub between-more : (t r o : ℕ) {u : ℕ} → b .lower ≤ o → u ≡ bitOr t r → Exactly t (Stops X Y p b o) → Exactly r (λ j. Path X Y (p + o) j 0 0)
+  pub between-more : (t r o : ℕ) {u : ℕ} → b .lower ≤ o → u ≡ bitOr t r → Exactly t (Stops X Y p b o) → Exactly r (λ j. PadPath X Y (p + o) j 0 0)
       → Exactly u (Stops X Y p b (o + 1))
   between-more t r o l e x y = exactly-as to from (either-exactly t r e)
     where
@@ -143,7 +174,7 @@ module _ {X Y : ℕ → Block} {p : ℕ} {b : Block} where
       from : (j : ℕ) → Stops X Y p b (o + 1) j → Holds t j ⊎ Holds r j
       from j w = ⊎-elim
           (λ c. inl (x .mark j (record { number = w .number; enough = w .enough; before = c; reached = w .reached })))
-          (λ c. let z = w .before in inr (y .mark j (subst (λ (x : ℕ). Path X Y (p + x) j 0 0) (let g : w .number ≡ o = omega arith in g) (w .reached))))
+          (λ c. let z = w .before in inr (y .mark j (subst (λ (x : ℕ). PadPath X Y (p + x) j 0 0) (let g : w .number ≡ o = omega arith in g) (w .reached))))
           (lt-or-le (w .number) o)
 
   pub between-same : {t : ℕ} (o : ℕ) → o < b .lower → Exactly t (Stops X Y p b o) → Exactly t (Stops X Y p b (o + 1))

@@ -15,9 +15,11 @@ use Rattle.rows.specs.Row.{rowIn}
 use Rattle.rows.specs.Steps.{InTurn, Matched}
 use Rattle.row_lay.specs.Lay.{Lay}
 use Rattle.row_lay.proofs.Laid.{lay-in-turn, matched-meets, meets-matched}
-use Rattle.row_paths.specs.Rows.{Zones, BlockIn}
-use Rattle.row_paths.proofs.Chars.{SlotRows}
-use Rattle.row_paths.proofs.Shapes.{block-in, zones-of, slot-rows}
+use Rattle.rests.proofs.Fillings.{total-take}
+use Rattle.pads.specs.Pad.{paddedAt}
+use Rattle.row_paths.specs.Rows.{Zones, Shares, BlockIn}
+use Rattle.row_paths.proofs.Chars.{SlotRows, PaddedRows}
+use Rattle.row_paths.proofs.Shapes.{block-in, zones-of, slot-rows, padded-block, padded-zones, padded-rows, padded-shares}
 
 -- the same pairs of sets
 matched-as : {A A′ B : ℕ → ℕ} {k k′ s q : ℕ} → ((j : ℕ) → j < k → A j ≡ A′ j) → k ≡ k′ → Matched A B k s q → Matched A′ B k′ s q
@@ -59,3 +61,27 @@ slot-rows-at y d l = let r = slot-rows l in let n = shape-length y in record {
 pub block-at : (x : List ℕ) (i p : ℕ) {b : Block} → i < length x / 4 → p ≡ total (take i (shapeOf x)) → b ≡ blockAt x i → BlockIn (slotAt (shapeOf x)) p b
 block-at x i p {b} h e d = subst (λ (q : ℕ). BlockIn (slotAt (shapeOf x)) q b) (sym e)
     (subst (BlockIn (slotAt (shapeOf x)) (total (take i (shapeOf x)))) (shape-at x i noBlock h ∙ sym d) (block-in (shapeOf x) i (let c = shape-length x in omega arith)))
+
+-- ---- the same with padding behind the blocks
+
+module _ (pad : ℕ) (y : List ℕ) {k : ℕ} (d : k ≡ length y / 4) {z e s : List ℕ} (l : Lay (shapeOf y) z e s) (short : total (shapeOf y) ≤ 250) where
+  pub padded-zones-at : Zones (paddedAt pad (shapeOf y)) (rowIn z) (rowIn e) k
+  padded-zones-at = padded-zones pad (shapeOf y) short (zones-at y d l short)
+
+  pub padded-rows-at : PaddedRows (paddedAt pad (shapeOf y)) (λ j. blockAt y j .base) (rowIn s) k pad (total (shapeOf y))
+  padded-rows-at = padded-rows pad (shapeOf y)
+      (λ j q h x.
+      let small : j < length (shapeOf y) = let c = shape-length y in omega arith in
+      let w = l .slot j small .so q x .1 in
+      let t = total-take (shapeOf y) j small in
+      omega arith)
+      (slot-rows-at y d l)
+
+  -- where a base shares a character with the blocks, and with the padding
+  pub shares-at : {base on waits m : ℕ} → m ≡ total (shapeOf y) → Exactly on (Matched (λ j. blockAt y j .base) (rowIn s) k base) → Exactly waits (λ q. Meets base pad × (q ≡ m))
+      → Shares (paddedAt pad (shapeOf y)) base on waits
+  shares-at {base} {waits = waits} f x w = padded-shares pad (shapeOf y) short (mine-at y d l x) (subst (λ (q : ℕ). Exactly waits (λ p. Meets base pad × (p ≡ q))) f w)
+
+pub padded-block-at : (pad : ℕ) (x : List ℕ) (i p : ℕ) {b : Block} → i < length x / 4 → p ≡ total (take i (shapeOf x)) → b ≡ blockAt x i → BlockIn (paddedAt pad (shapeOf x)) p b
+padded-block-at pad x i p {b} h e d = subst (λ (q : ℕ). BlockIn (paddedAt pad (shapeOf x)) q b) (sym e)
+    (subst (BlockIn (paddedAt pad (shapeOf x)) (total (take i (shapeOf x)))) (shape-at x i noBlock h ∙ sym d) (padded-block pad (shapeOf x) i (let c = shape-length x in omega arith)))

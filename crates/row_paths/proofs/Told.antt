@@ -1,4 +1,4 @@
--- A block as the gathered sets tell of it is what the pairs of fillings with one text give it. Assumes nothing.
+-- A block as the gathered sets tell of it is what the pairs of fillings with one text, but for padding, give it. Assumes nothing.
 use mathlib.Core.Path.{_≡_, refl, sym, ap, _∙_, subst}
 use mathlib.Core.Logic.{⊎-elim}
 use Prim.Native.Nat.{ℕ, _+_, _-_, _≤_, _<_}
@@ -8,21 +8,21 @@ use Rattle.bases.proofs.Plain.{lt-or-le}
 use Rattle.bases.proofs.Sets as bits
 use Rattle.sets.specs.Set.{Exactly}
 use Rattle.shapes.specs.Shape.{Block}
-use Rattle.rests.specs.Walk.{first, second, both, Path, move, Bounded}
-use Rattle.rests.specs.Collect.{Passes, Ends, empty, filled, Collected}
-use Rattle.rests.proofs.Walks.{path-then, text-of, below-character, ends-within}
+use Rattle.pads.specs.Pad.{first, second, both, PadPath, move, after}
+use Rattle.pads.specs.Collect.{Passes, Ends, empty, filled, Collected}
+use Rattle.pads.proofs.Paths.{after-on, after-stays, pad-then}
 use Rattle.row_blocks.specs.Blocks.{LengthBy, early, full, bare, ToldBy}
 use Rattle.row_paths.specs.Rows.{BlockIn, Quits, Takes, Seen, Gives}
 use Rattle.row_paths.proofs.Reached.{Led, begin, then, led}
-use Rattle.row_paths.proofs.Forth.{slot-base, slot-lower, slot-upper, ends-here}
+use Rattle.row_paths.proofs.Forth.{slot-base, slot-lower, slot-upper, ends-here, block-on}
 
 -- ---- a position within a block is reached by its last character, and by ends of runs of Y after that
 
 record Last (X Y : ℕ → Block) (U W p : ℕ) (b : Block) (n j : ℕ) : Type 0 where
   other : ℕ
-  reached : Path X Y (p + (n - 1)) other 0 0
+  reached : PadPath X Y (p + (n - 1)) other 0 0
   meets : Meets (b .base) (Y other .base)
-  back : (a : ℕ) → Path X Y U W a j → Path X Y U W a (other + 1)
+  back : (a : ℕ) → PadPath X Y U W a j → PadPath X Y U W a (after Y other)
 
 last-taken : {X Y : ℕ → Block} {U W p : ℕ} {b : Block} → BlockIn X p b → (n : ℕ) → 0 < n → n < b .upper → {i j : ℕ} → Led X Y i j → i ≡ p + n → Last X Y U W p b n j
 last-taken k n l h (begin e f) z = absurd (omega arith)
@@ -30,25 +30,28 @@ last-taken {X} {Y} k n l h (then {a = a} {b = q} r w (first o e f)) z = let i = 
 last-taken {X} {Y} {U} {W} k n l h (then {a = a} {b = q} r w (second o e f)) z =
     let v = last-taken {U = U} {W = W} k n l h r (sym e ∙ z) in
     record { other = v .other; reached = v .reached; meets = v .meets; back = λ c x. v .back c (move (second o refl f) x) }
-last-taken {X} {Y} {U} {W} {p} {b} k n l h (then {a = a} {b = q} r w (both m e f)) z =
+last-taken {X} {Y} {U} {W} {p} {b} k n l h (then {a = a} {b = q} r w (both m e f)) z = ⊎-elim
+    (λ none.
+    let same : a ≡ p + n = sym (after-stays X a (omega arith)) ∙ sym e ∙ z in
+    let u : X a .upper ≡ b .upper - n = ap (λ (x : ℕ). X x .upper) same ∙ slot-upper k n h in
+    absurd (omega arith))
+    (λ room.
+    let on = after-on X a room in
     let at : a ≡ p + (n - 1) = omega arith in
     record {
       other = q;
-      reached = subst (λ (x : ℕ). Path X Y x q 0 0) at w;
+      reached = subst (λ (x : ℕ). PadPath X Y x q 0 0) at w;
       meets = subst (λ (x : ℕ). Meets x (Y q .base)) (ap (λ (x : ℕ). X x .base) at ∙ slot-base k (n - 1) (omega arith)) m;
-      back = λ c x. subst (λ (y : ℕ). Path X Y U W c y) f x;
-    }
-
--- the other stays within its positions
-pub within-other : {X Y : ℕ → Block} {W i j : ℕ} → Bounded Y W → Path X Y i j 0 0 → j ≤ W
-within-other other w = let t = text-of w in ends-within other (omega arith) (t .2)
+      back = λ c x. subst (λ (y : ℕ). PadPath X Y U W c y) f x;
+    })
+    (lt-or-le (X a .upper) 1)
 
 -- ---- lengths
 
-module _ {X Y : ℕ → Block} {U W p : ℕ} {b : Block} (k : BlockIn X p b) (other : Bounded Y W) (ordered : b .lower ≤ b .upper) where
+module _ {X Y : ℕ → Block} {U W p : ℕ} {b : Block} (k : BlockIn X p b) (ordered : b .lower ≤ b .upper) where
   ends-up : {n : ℕ} → Ends X Y U W p b n → n ≤ b .upper
-  ends-up (empty j l low e pre post) = omega arith
-  ends-up (filled i j l e room low pre m post) = omega arith
+  ends-up (empty j low e pre post) = omega arith
+  ends-up (filled i j e room low pre m post) = omega arith
 
   length-ends : {quit moved n s : ℕ} → Exactly quit (Seen 0 (Quits X Y U W)) → Exactly moved (Seen 0 (Takes X Y U W)) → Ends X Y U W p b s → LengthBy quit moved p b n → Ends X Y U W p b n
   length-ends {n = n} {s = s} x y a (bare z e) = subst (Ends X Y U W p b) (let u = ends-up a in let g : s ≡ n = omega arith in g) a
@@ -57,10 +60,10 @@ module _ {X Y : ℕ → Block} {U W p : ℕ} {b : Block} (k : BlockIn X p b) (ot
       let enough = low in
       let zero : n ≡ 0 = omega arith in
       let at : p + n ≡ p = omega arith in
-      empty (q .other) (within-other other (w .reached)) (omega arith) zero (subst (λ (i : ℕ). Path X Y i (q .other) 0 0) at (w .reached)) to-end)
+      empty (q .other) (omega arith) zero (subst (λ (i : ℕ). PadPath X Y i (q .other) 0 0) at (w .reached)) to-end)
       (λ c.
       let v = last-taken {U = U} {W = W} k n c l (led (w .reached)) refl in
-      filled (n - 1) (v .other) (below-character other (v .other) (v .meets .shared) (within-other other (v .reached)) (v .meets .second)) (omega arith) (omega arith) low (v .reached) (v .meets) (v .back (p + b .upper) to-end))
+      filled (n - 1) (v .other) (omega arith) (omega arith) low (v .reached) (v .meets) (v .back (p + b .upper) to-end))
       (lt-or-le n 1)
     where
       q : Seen 0 (Quits X Y U W) (p + n)
@@ -72,17 +75,17 @@ module _ {X Y : ℕ → Block} {U W p : ℕ} {b : Block} (k : BlockIn X p b) (ot
       low : b .lower ≤ n
       low = let f = w .free in let g = slot-lower k n l in omega arith
 
-      to-end : Path X Y U W (p + b .upper) (q .other)
-      to-end = subst (λ (i : ℕ). Path X Y U W i (q .other)) (let g = slot-upper k n l in let e : p + n + X (p + n) .upper ≡ p + b .upper = omega arith in e) (w .on)
+      to-end : PadPath X Y U W (p + b .upper) (q .other)
+      to-end = subst (λ (i : ℕ). PadPath X Y U W i (q .other)) (let g = slot-upper k n l in let e : p + n + X (p + n) .upper ≡ p + b .upper = omega arith in e) (w .on)
   length-ends {n = n} x y a (full i e d h) =
       let q = y .so (p + i) h in
       let w = q .has in
       let m = subst (λ (z : ℕ). Meets z (Y (q .other) .base)) (slot-base k i (omega arith)) (w .meets) in
-      filled i (q .other) (below-character other (q .other) (m .shared) (within-other other (w .reached)) (m .second)) e (omega arith) (omega arith) (w .reached) m
-      (subst (λ (z : ℕ). Path X Y U W z (q .other + 1)) (let g : p + i + 1 ≡ p + b .upper = omega arith in g) (w .on))
+      filled i (q .other) e (omega arith) (omega arith) (w .reached) m
+      (subst (λ (z : ℕ). PadPath X Y U W z (after Y (q .other))) (sym (block-on k i (omega arith)) ∙ (let g : p + i + 1 ≡ p + b .upper = omega arith in g)) (w .on))
 
   ends-length : {quit moved n : ℕ} → Exactly quit (Seen 0 (Quits X Y U W)) → Exactly moved (Seen 0 (Takes X Y U W)) → Ends X Y U W p b n → LengthBy quit moved p b n
-  ends-length {n = n} x y (empty j l low e pre post) = ⊎-elim
+  ends-length {n = n} x y (empty j low e pre post) = ⊎-elim
       (λ c. bare (omega arith) e)
       (λ c.
       let at : p ≡ p + n = omega arith in
@@ -94,10 +97,10 @@ module _ {X Y : ℕ → Block} {U W p : ℕ} {b : Block} (k : BlockIn X p b) (ot
       early (omega arith) (x .mark (p + n) (record {
         from = omega arith;
         other = j;
-        has = record { reached = subst (λ (i : ℕ). Path X Y i j 0 0) at pre; free = free; on = subst (λ (i : ℕ). Path X Y U W i j) end post };
+        has = record { reached = subst (λ (i : ℕ). PadPath X Y i j 0 0) at pre; free = free; on = subst (λ (i : ℕ). PadPath X Y U W i j) end post };
       })))
       (lt-or-le (b .upper) 1)
-  ends-length {n = n} x y (filled i j l e room low pre m post) =
+  ends-length {n = n} x y (filled i j e room low pre m post) =
       let m′ = subst (λ (z : ℕ). Meets z (Y j .base)) (sym (slot-base k i room)) m in
       ⊎-elim
       (λ c.
@@ -105,17 +108,17 @@ module _ {X Y : ℕ → Block} {U W p : ℕ} {b : Block} (k : BlockIn X p b) (ot
       let up = slot-upper k n c in
       early c (x .mark (p + n) (record {
         from = omega arith;
-        other = j + 1;
+        other = after Y j;
         has = record {
-          reached = path-then pre (both m′ (omega arith) refl);
+          reached = pad-then pre (both m′ ((let g : p + n ≡ p + i + 1 = omega arith in g) ∙ block-on k i room) refl);
           free = omega arith;
-          on = subst (λ (z : ℕ). Path X Y U W z (j + 1)) (let g : p + b .upper ≡ p + n + X (p + n) .upper = omega arith in g) post;
+          on = subst (λ (z : ℕ). PadPath X Y U W z (after Y j)) (let g : p + b .upper ≡ p + n + X (p + n) .upper = omega arith in g) post;
         };
       })))
       (λ c. full i e (omega arith) (y .mark (p + i) (record {
         from = omega arith;
         other = j;
-        has = record { reached = pre; meets = m′; on = subst (λ (z : ℕ). Path X Y U W z (j + 1)) (let g : p + b .upper ≡ p + i + 1 = omega arith in g) post };
+        has = record { reached = pre; meets = m′; on = subst (λ (z : ℕ). PadPath X Y U W z (after Y j)) ((let g : p + b .upper ≡ p + i + 1 = omega arith in g) ∙ block-on k i room) post };
       })))
       (lt-or-le n (b .upper))
 
@@ -132,11 +135,10 @@ module _ {X Y : ℕ → Block} {U W p : ℕ} {b : Block} (k : BlockIn X p b) (ot
         before = u .number - p;
         other = g .other;
         room = omega arith;
-        bound = below-character other (g .other) c (within-other other (t .reached)) (g .holds);
-        reached = subst (λ (i : ℕ). Path X Y i (g .other) 0 0) at (t .reached);
+        reached = subst (λ (i : ℕ). PadPath X Y i (g .other) 0 0) at (t .reached);
         own = h;
         others = g .holds;
-        after = subst (λ (i : ℕ). Path X Y U W (i + 1) (g .other + 1)) at (t .on);
+        on = subst (λ (i : ℕ). PadPath X Y U W i (after Y (g .other))) (ap (after X) at ∙ sym (block-on k (u .number - p) (omega arith))) (t .on);
       }
 
   passes-gives : (c : ℕ) → Passes X Y U W p b c → Gives X Y U W p (p + b .upper) 0 c
@@ -149,7 +151,7 @@ module _ {X Y : ℕ → Block} {U W p : ℕ} {b : Block} (k : BlockIn X p b) (ot
           number = p + q .before;
           from = omega arith;
           before = omega arith;
-          takes = record { reached = q .reached; meets = record { shared = c; first = subst (λ (z : ℕ). Holds z c) (sym (slot-base k (q .before) room)) (q .own); second = q .others }; on = q .after };
+          takes = record { reached = q .reached; meets = record { shared = c; first = subst (λ (z : ℕ). Holds z c) (sym (slot-base k (q .before) room)) (q .own); second = q .others }; on = subst (λ (i : ℕ). PadPath X Y U W i (after Y (q .other))) (block-on k (q .before) room) (q .on) };
         };
         holds = q .others;
       }

@@ -1,4 +1,4 @@
--- The table is proved, and the slip.
+-- The table is proved, and the slip, and the examples of padding.
 pub mod Soundness
 pub mod Computed
 pub mod OneRun
@@ -6,3 +6,4 @@ pub mod Orders
 pub mod Rows
 pub mod Slips
 pub mod Useless
+pub mod Padding

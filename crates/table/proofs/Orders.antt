@@ -27,7 +27,7 @@ a-held : Holds a 97
 unfolding Holds
 a-held = refl
 
-a-only : (c : ℕ) → Holds a c → c ≡ 97
+pub a-only : (c : ℕ) → Holds a c → c ≡ 97
 unfolding leastOf greatestOf leadingZeros trailingZeros Empty
 a-only c h =
     let low : 97 ≤ c = least-of a (lit< tt) (λ n. n 97 a-held) .least c h in

@@ -1,3 +1,4 @@
--- The laws of the order of texts that other crates cite.
+-- The laws of the order of texts, and of equality but for padding, that other crates cite.
 pub mod Order
 pub mod Rests
+pub mod Padding

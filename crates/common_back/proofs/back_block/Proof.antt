@@ -6,8 +6,7 @@ use lib.ListN.{length}
 use Rattle.sets.specs.Set.{setOf}
 use Rattle.shapes.specs.Lent.{meant}
 use Rattle.rows.specs.Row.{rowIn, tableSize}
-use Rattle.equal_back.specs.Back.{Whenever}
-use Rattle.common_back.specs.Back.{RowsAfter}
+use Rattle.common_back.specs.Back.{Whenever, RowsAfter}
 use Rattle.common_back.proofs.Rows.{KeptFrom, rows-start, rows-more, rows-end, after-none, after-more}
 use borrow.Author.Needs.{needs}
 use Rattle.common_back.proofs.back_block.Statement.{statement}

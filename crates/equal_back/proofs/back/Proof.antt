@@ -16,39 +16,38 @@ use Rattle.equal_back.proofs.back.Statement.{statement}
 use Rattle.equal_back.proofs.back.Tie as tie
 
 abbrev Inv-loop : tie.InvT-loop
-Inv-loop x y zones ends slots mines rows own₀ others₀ k m g₀ moved₀ p₀ i₀ own others g moved p i =
-    (k ≡ length y / 4) × (i ≤ length x / 4) × (length own ≡ length own₀) × (length others ≡ length others₀) × PassFrom x y i p g (setOf moved) own others
+Inv-loop x y zones ends slots pad mines rows own₀ others₀ k m p₀ g₀ moved₀ i₀ own others p g moved i =
+    (k ≡ length y / 4) × (i ≤ length x / 4) × (length own ≡ length own₀) × (length others ≡ length others₀) × PassFrom (setOf pad) x y i p g (setOf moved) own others
 
 abbrev μ-loop : tie.MeasureT-loop
-μ-loop x y zones ends slots mines rows own₀ others₀ k m g₀ moved₀ p₀ i₀ own others g moved p i = i
+μ-loop x y zones ends slots pad mines rows own₀ others₀ k m p₀ g₀ moved₀ i₀ own others p g moved i = i
 
 total-upper-requires : tie.Need-total-upper-requires Inv-loop μ-loop
 total-upper-requires c κs = let short = c .before .before .before .before .before .before .before .before .before .pre .0 .1 .short in omega arith
 
+total-upper-requires-2 : tie.Need-total-upper-requires-2 Inv-loop μ-loop
+total-upper-requires-2 c κs = let short = c .before .before .before .before .before .before .before .before .before .before .pre .0 .0 .short in omega arith
+
 at-end-requires : tie.Need-at-end-requires Inv-loop μ-loop
 at-end-requires c κs =
-    let s = c .before .before .before .before .before .before .before .before .before .before in
+    let s = c .before .before .before .before .before .before .before .before .before .before .before in
     let w = s .pre .1 .1 .1 .0 in
-    let zones = w .zones-long in
-    let ends = w .ends-long in
-    let short = s .pre .0 .1 .short in
-    let m = c .total-upper .ensures in
-    ((omega arith, omega arith), (in-turn-of (s .args .y .now) (s .pre .1 .0), omega arith))
+    let short = s .pre .0 .0 .short in
+    let n = c .total-upper2 .ensures in
+    ((s .pre .0 .1, refl, c .before .total-upper .ensures), (s .pre .1 .0, ((w .zones-long, w .ends-long, w .slots-long), omega arith)))
 
-none-requires : tie.Need-none-requires Inv-loop μ-loop
-none-requires c κs = search needs
-
-total-upper-requires-2 : tie.Need-total-upper-requires-2 Inv-loop μ-loop
-total-upper-requires-2 c κs = let short = c .before .before .before .before .before .before .before .before .before .before .before .before .pre .0 .0 .short in omega arith
+give-requires : tie.Need-give-requires Inv-loop μ-loop
+give-requires c κs = let w = c .before .before .before .before .before .before .before .before .before .before .before .before .before .before .pre .1 .1 .1 .0 in let slots = w .slots-long in let others = w .others-long in (omega arith, omega arith)
 
 loop-holds : tie.Need-loop-holds Inv-loop μ-loop
 loop-holds c =
-    let s = c .before .before .before .before .before .before .before .before .before .before .before .before .before in (
+    let s = c .before .before .before .before .before .before .before .before .before .before .before .before .before .before .before .before .before in
+    let g = c .before .before .give .ensures in (
       search needs,
       search needs,
       search needs,
       search needs,
-      pass-end (s .args .x .now) (s .args .y .now) (s .pre .1 .0) (s .pre .1 .1 .0) (s .pre .0 .1 .short) refl refl (c .total-upper2 .ensures) (c .before .before .before .total-upper .ensures) (c .before .before .at-end .ensures) (c .before .none .ensures) (s .pre .1 .1 .1 .1),
+      pass-end _ (s .args .x .now) (s .args .y .now) (s .pre .1 .0) (s .pre .1 .1 .0) (s .pre .0 .1 .short) refl refl (c .before .before .before .before .before .before .total-upper2 .ensures) (c .before .before .before .before .before .at-end .ensures) refl (s .pre .1 .1 .1 .1) (g .0),
     )
 
 sub-i : tie.Need-sub-i Inv-loop μ-loop
@@ -61,7 +60,7 @@ block-at-requires c κs = let h = c .before .loop .inv .1 in omega arith
 within : (c : tie.After-block-at Inv-loop μ-loop) → (c .block-at .result .upper ≤ c .before .before .loop .p) × (c .before .before .loop .p ≤ 250)
 within c =
     let l = c .before .before .loop in
-    let s = c .before .before .before .before .before .before .before .before .before .before .before .before .before .before .before .before in
+    let s = c .before .before .before .before .before .before .before .before .before .before .before .before .before .before .before .before .before .before .before .before in
     let h = l .inv .1 in
     let u = ap (λ (b : Block). b .upper) (c .block-at .ensures .0) in
     let n : ℕ = l .i - 1 in
@@ -74,64 +73,81 @@ within c =
 sub-p : tie.Need-sub-p Inv-loop μ-loop
 sub-p c = let h = within c in omega arith
 
+waiting-requires : tie.Need-waiting-requires Inv-loop μ-loop
+waiting-requires c κs = let m = c .before .before .before .before .before .before .before .before .before .before .total-upper .ensures in let short = c .before .before .before .before .before .before .before .before .before .before .before .before .before .before .before .before .before .before .before .before .pre .0 .1 .short in omega arith
+
 row-at-requires : tie.Need-row-at-requires Inv-loop μ-loop
-row-at-requires c κs = let h = c .before .before .loop .inv .1 in let w = c .before .before .before .before .before .before .before .before .before .before .before .before .before .before .before .before .pre .1 .1 .1 .0 .mines-long in omega arith
+row-at-requires c κs = let h = c .before .before .before .loop .inv .1 in let w = c .before .before .before .before .before .before .before .before .before .before .before .before .before .before .before .before .before .before .before .before .before .pre .1 .1 .1 .0 .mines-long in omega arith
 
 fresh-requires : tie.Need-fresh-requires Inv-loop μ-loop
 fresh-requires c κs = search needs
 
 back-block-requires : tie.Need-back-block-requires Inv-loop μ-loop
 back-block-requires c κs =
-    let s = c .before .before .before .before .before .before .before .before .before .before .before .before .before .before .before .before .before .before in
-    let k = c .before .before .before .before .loop .inv .0 in
+    let s = c .before .before .before .before .before .before .before .before .before .before .before .before .before .before .before .before .before .before .before .before .before .before .before in
+    let k = c .before .before .before .before .before .loop .inv .0 in
     let w = s .pre .1 .1 .1 .0 in
     let zones = w .zones-long in
     let ends = w .ends-long in
-    let h = within (c .before .before) in
+    let h = within (c .before .before .before) in
     ((omega arith, omega arith), (subst (InTurn (rowIn (s .args .zones .now)) (rowIn (s .args .ends .now))) (sym k) (in-turn-of (s .args .y .now) (s .pre .1 .0)), (omega arith, w .rows-long)))
 
-joined-requires : tie.Need-joined-requires Inv-loop μ-loop
-joined-requires c κs = let k = c .before .before .before .before .before .before .before .loop .inv .0 in let w = c .before .before .before .before .before .before .before .before .before .before .before .before .before .before .before .before .before .before .before .before .before .pre .1 .1 .1 .0 .slots-long in (omega arith, omega arith)
+chars-requires : tie.Need-chars-requires Inv-loop μ-loop
+chars-requires c κs =
+    let k = c .before .before .before .before .before .before .before .before .loop .inv .0 in
+    let s = c .before .before .before .before .before .before .before .before .before .before .before .before .before .before .before .before .before .before .before .before .before .before .before .before .before .before in
+    let w = s .pre .1 .1 .1 .0 .slots-long in
+    let m = c .before .before .before .before .before .before .before .before .before .before .before .before .before .before .before .before .total-upper .ensures in
+    let short = s .pre .0 .1 .short in
+    (omega arith, omega arith, omega arith)
 
 put-row-requires : tie.Need-put-row-requires Inv-loop μ-loop
-put-row-requires c κs = let l = c .before .before .before .before .before .before .before .before .loop in let h = l .inv .1 in let n = l .inv .2 in let w = c .before .before .before .before .before .before .before .before .before .before .before .before .before .before .before .before .before .before .before .before .before .before .pre .1 .1 .1 .0 .own-long in omega arith
+put-row-requires c κs = let l = c .before .before .before .before .before .before .before .before .before .loop in let h = l .inv .1 in let n = l .inv .2 in let w = c .before .before .before .before .before .before .before .before .before .before .before .before .before .before .before .before .before .before .before .before .before .before .before .before .before .before .before .pre .1 .1 .1 .0 .own-long in omega arith
 
-give-requires : tie.Need-give-requires Inv-loop μ-loop
-give-requires c κs = let l = c .before .before .before .before .before .before .before .before .before .before .before .before .loop in let k = l .inv .0 in let n = l .inv .3 in let w = c .before .before .before .before .before .before .before .before .before .before .before .before .before .before .before .before .before .before .before .before .before .before .before .before .before .before .pre .1 .1 .1 .0 in let slots = w .slots-long in let others = w .others-long in (omega arith, omega arith)
+give-requires-2 : tie.Need-give-requires-2 Inv-loop μ-loop
+give-requires-2 c κs =
+    let l = c .before .before .before .before .before .before .before .before .before .before .before .before .before .loop in
+    let k = l .inv .0 in
+    let n = l .inv .3 in
+    let given = c .before .before .before .before .before .before .before .before .before .before .before .before .before .before .before .before .give .ensures .1 in
+    let w = c .before .before .before .before .before .before .before .before .before .before .before .before .before .before .before .before .before .before .before .before .before .before .before .before .before .before .before .before .before .before .before .pre .1 .1 .1 .0 in
+    let slots = w .slots-long in
+    let others = w .others-long in
+    (omega arith, omega arith)
 
 either-requires : tie.Need-either-requires Inv-loop μ-loop
 either-requires c κs = search needs
 
 loop-less : tie.Need-loop-less Inv-loop μ-loop
-loop-less c = let t = c .before .before .before .before .before .before .before .before .before .before .before .before .before .before .before .loop-test .taken in omega arith
+loop-less c = let t = c .before .before .before .before .before .before .before .before .before .before .before .before .before .before .before .before .loop-test .taken in omega arith
 
 loop-again : tie.Need-loop-again Inv-loop μ-loop
 loop-again c =
-    let l = c .before .before .before .before .before .before .before .before .before .before .before .before .before .before .before .before .loop in
-    let s = c .before .before .before .before .before .before .before .before .before .before .before .before .before .before .before .before .before .before .before .before .before .before .before .before .before .before .before .before .before .before in
+    let l = c .before .before .before .before .before .before .before .before .before .before .before .before .before .before .before .before .before .loop in
+    let s = c .before .before .before .before .before .before .before .before .before .before .before .before .before .before .before .before .before .before .before .before .before .before .before .before .before .before .before .before .before .before .before .before .before .before .before in
     let h = l .inv .1 in
-    let g = c .before .before .before .give .ensures in
+    let g = c .before .before .before .give2 .ensures in
     let u = c .before .before .before .before .before .before .before .put-row .ensures in
-    let w = within (c .before .before .before .before .before .before .before .before .before .before .before .before .before .before) in
-    let t = c .before .before .before .before .before .before .before .before .before .before .before .before .before .before .before .loop-test .taken in (
+    let w = within (c .before .before .before .before .before .before .before .before .before .before .before .before .before .before .before) in
+    let t = c .before .before .before .before .before .before .before .before .before .before .before .before .before .before .before .before .loop-test .taken in (
       l .inv .0,
       omega arith,
       u .long ∙ l .inv .2,
       g .1 ∙ l .inv .3,
-      pass-more (s .args .x .now) (s .args .y .now) (s .pre .1 .0) (s .pre .1 .1 .0) (s .pre .0 .1 .short) (l .inv .0) (omega arith) (omega arith) (c .before .before .before .before .before .before .before .before .before .before .before .before .before .before .block-at .ensures .0) (omega arith) (l .inv .4)
-          (c .before .before .before .before .before .before .before .before .before .before .before .before .fresh .ensures) (c .before .before .before .before .before .before .before .before .before .before .before .before .before .row-at .ensures) (c .before .before .before .before .before .before .before .before .before .before .before .back-block .ensures) (c .before .before .before .before .before .before .before .before .joined .ensures) u (g .0) (c .either .ensures),
+      pass-more _ (s .args .x .now) (s .args .y .now) (s .pre .1 .0) (s .pre .1 .1 .0) (s .pre .0 .1 .short) (l .inv .0) (omega arith) (omega arith) (c .before .before .before .before .before .before .before .before .before .before .before .before .before .before .before .block-at .ensures .0) (omega arith) (c .before .before .before .before .before .before .before .before .before .before .before .before .before .before .before .before .before .before .before .before .before .before .before .before .before .total-upper .ensures) (l .inv .4)
+          (c .before .before .before .before .before .before .before .before .before .before .before .before .fresh .ensures) (c .before .before .before .before .before .before .before .before .before .before .before .before .before .row-at .ensures) (c .before .before .before .before .before .before .before .before .before .before .before .before .before .before .waiting .ensures) (c .before .before .before .before .before .before .before .before .before .before .before .back-block .ensures) (c .before .before .before .before .before .before .before .before .chars .ensures) u (g .0) (c .either .ensures),
     )
 
 same-length : tie.Need-same-length Inv-loop μ-loop
 same-length c = c .before .before .before .before .loop .inv .2
 
 same-length-2 : tie.Need-same-length-2 Inv-loop μ-loop
-same-length-2 c = c .before .before .before .before .loop .inv .3
+same-length-2 c = c .before .before .before .before .loop .inv .3 ∙ c .before .before .before .before .before .before .before .give .ensures .1
 
 returns : tie.Need-returns Inv-loop μ-loop
 returns c =
     let l = c .before .before .before .before .loop in
-    (own-told (omega arith) (l .inv .4), (others-told (omega arith) (l .inv .4), (l .inv .2, l .inv .3)))
+    (own-told (omega arith) (l .inv .4), (others-told (omega arith) (l .inv .4), (l .inv .2, l .inv .3 ∙ c .before .before .before .before .before .before .before .give .ensures .1)))
 
 pub back-spec : {M : Type 1} → statement M
 back-spec =
@@ -140,19 +156,20 @@ back-spec =
     Inv-loop
     μ-loop
     total-upper-requires
-    at-end-requires
-    none-requires
     total-upper-requires-2
+    at-end-requires
+    give-requires
     loop-holds
     sub-i
     block-at-requires
     sub-p
+    waiting-requires
     row-at-requires
     fresh-requires
     back-block-requires
-    joined-requires
+    chars-requires
     put-row-requires
-    give-requires
+    give-requires-2
     either-requires
     loop-less
     loop-again

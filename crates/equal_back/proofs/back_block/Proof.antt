@@ -12,11 +12,11 @@ use Rattle.equal_back.proofs.back_block.Statement.{statement}
 use Rattle.equal_back.proofs.back_block.Tie as tie
 
 abbrev Inv-loop : tie.InvT-loop
-Inv-loop zones ends k mine b p rows stop got₀ o₀ got o =
-    (o ≤ b .upper) × Whenever (rowIn zones) (rowIn ends) k (setOf mine) p (meant b) (RowsBack rows (setOf stop) o p (meant b) got₀ got)
+Inv-loop zones ends k mine waits b p rows stop got₀ o₀ got o =
+    (o ≤ b .upper) × Whenever (rowIn zones) (rowIn ends) k (setOf mine) (setOf waits) p (meant b) (RowsBack rows (setOf stop) o p (meant b) got₀ got)
 
 abbrev μ-loop : tie.MeasureT-loop
-μ-loop zones ends k mine b p rows stop got₀ o₀ got o = o
+μ-loop zones ends k mine waits b p rows stop got₀ o₀ got o = o
 
 loop-holds : tie.Need-loop-holds Inv-loop μ-loop
 loop-holds c = (omega arith, rows-start (c .before .before .before .before .args .rows .now) _ refl refl)

@@ -12,12 +12,12 @@ use Rattle.equal_forth.proofs.forth_block.Statement.{statement}
 use Rattle.equal_forth.proofs.forth_block.Tie as tie
 
 abbrev Inv-loop : tie.InvT-loop
-Inv-loop zones ends k mine b p rows₀ upper enter₀ stopped₀ o₀ rows enter stopped o =
+Inv-loop zones ends k mine waits b p rows₀ upper enter₀ stopped₀ o₀ rows enter stopped o =
     (upper ≡ b .upper) × (o ≤ upper) × RowsKept p rows₀ rows
-    × Follows (rowIn zones) (rowIn ends) k (setOf mine) p (meant b) (setOf enter₀) (λ X Y. RowsTo X Y p (meant b) o rows (setOf enter) (setOf stopped))
+    × Follows (rowIn zones) (rowIn ends) k (setOf mine) (setOf waits) p (meant b) (setOf enter₀) (λ X Y. RowsTo X Y p (meant b) o rows (setOf enter) (setOf stopped))
 
 abbrev μ-loop : tie.MeasureT-loop
-μ-loop zones ends k mine b p rows₀ upper enter₀ stopped₀ o₀ rows enter stopped o = upper - o
+μ-loop zones ends k mine waits b p rows₀ upper enter₀ stopped₀ o₀ rows enter stopped o = upper - o
 
 none-requires : tie.Need-none-requires Inv-loop μ-loop
 none-requires c κs = search needs
@@ -37,11 +37,8 @@ put-row-requires c κs = search needs
 with-requires : tie.Need-with-requires Inv-loop μ-loop
 with-requires c κs = search needs
 
-both-requires : tie.Need-both-requires Inv-loop μ-loop
-both-requires c κs = search needs
-
-up-requires : tie.Need-up-requires Inv-loop μ-loop
-up-requires c κs = search needs
+onward-requires : tie.Need-onward-requires Inv-loop μ-loop
+onward-requires c κs = search needs
 
 add-o : tie.Need-add-o Inv-loop μ-loop
 add-o c = search needs
@@ -51,7 +48,7 @@ loop-less c = search needs
 
 loop-again : tie.Need-loop-again Inv-loop μ-loop
 loop-again c =
-    let w = c .before .before in
+    let w = c .before in
     let u = w .before .before .before .before in
     let t = u .before .before in
     let l = t .before .before .loop in (
@@ -59,8 +56,8 @@ loop-again c =
       omega arith,
       before-more (omega arith) (l .inv .2) (u .put-row .ensures),
       record {
-        holds = λ X Y z k m x. rows-more (setOf _) _ _ z k m (omega arith) (l .inv .3 .holds X Y z k m x) (t .forth .ensures) (u .put-row .ensures)
-            (w .with .ensures .0) (w .with .ensures .1) (c .before .both .ensures) (c .up .ensures);
+        holds = λ X Y z k m x. rows-more (setOf _) (setOf _) (setOf _) z k m (omega arith) (l .inv .3 .holds X Y z k m x) (t .forth .ensures) (u .put-row .ensures)
+            (w .with .ensures .0) (w .with .ensures .1) (c .onward .ensures);
       },
     )
 
@@ -87,8 +84,7 @@ forth-block-spec =
     add-put-row
     put-row-requires
     with-requires
-    both-requires
-    up-requires
+    onward-requires
     add-o
     loop-less
     loop-again

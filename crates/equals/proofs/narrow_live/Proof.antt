@@ -1,6 +1,6 @@
 -- `equals::narrow_live`: each block of both sides is what the two passes tell of it. Assumes nothing.
 use native.Mathlib.Omega.{arith}
-use Rattle.rests.proofs.Walks.{turn-path}
+use Rattle.pads.proofs.Paths.{turn-pad}
 use Rattle.equals.proofs.Equal.{blank-long, lengths, both-of}
 use borrow.Author.Needs.{needs}
 use Rattle.equals.proofs.narrow_live.Statement.{statement}
@@ -38,7 +38,7 @@ narrow-blocks-requires-2 c κs =
     let s = c .before .before .before .before .before .before .before .before .before .before .before .before .before .before .before .before .before .before .before .before .before .before .before .before .pre in
     let few = s .1 .0 in
     let t = c .before .before .before .before .before .before .before .before .before .before .back .ensures in
-    (s .0 .1, ((search needs, s .1 .1 .0 .1), lengths (s .0 .1) (s .0 .0) (turn-path (s .1 .1 .1 .1 .1 .1)) (t .1 .0)))
+    (s .0 .1, ((search needs, s .1 .1 .0 .1), lengths (s .0 .1) (s .0 .0) (turn-pad (s .1 .1 .1 .1 .1 .1)) (t .1 .0)))
 
 same-length : tie.Need-same-length
 same-length c = search needs

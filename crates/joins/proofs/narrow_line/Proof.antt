@@ -4,8 +4,8 @@ use borrow.Author.Needs.{needs}
 use Rattle.joins.proofs.narrow_line.Statement.{statement}
 use Rattle.joins.proofs.narrow_line.Tie as tie
 
-narrow-equal-requires : tie.Need-narrow-equal-requires
-narrow-equal-requires c κs = search needs
+narrow-exact-requires : tie.Need-narrow-exact-requires
+narrow-exact-requires c κs = search needs
 
 same-length : tie.Need-same-length
 same-length c = search needs
@@ -14,7 +14,7 @@ same-length-2 : tie.Need-same-length-2
 same-length-2 c = search needs
 
 returns : tie.Need-returns
-returns c = turned-answer (c .before .before .before .before .narrow-equal .ensures)
+returns c = turned-answer (c .before .before .before .before .narrow-exact .ensures)
 
 narrow-long-requires : tie.Need-narrow-long-requires
 narrow-long-requires c κs = search needs
@@ -32,7 +32,7 @@ pub narrow-line-spec : {M : Type 1} → statement M
 narrow-line-spec =
     tie.close
     (tie.spec
-    narrow-equal-requires
+    narrow-exact-requires
     same-length
     same-length-2
     returns

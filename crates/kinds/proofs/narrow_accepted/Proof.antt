@@ -1,16 +1,21 @@
 -- `kinds::narrow_accepted`: by the kind. Assumes nothing.
+use mathlib.Core.List.{List}
+use Prim.Native.Nat.{ℕ, _≤_}
+use lib.ListN.{length}
 use borrow.Author.Needs.{needs}
+use Rattle.pairs.specs.Pair.{PairAccepted}
+use Rattle.shapes.specs.Lent.{Whole}
 use Rattle.shapes.proofs.Lent.{accepted-whole, accepted-few}
-use Rattle.kinds.proofs.Kind.{by-equality, by-order}
+use Rattle.kinds.proofs.Kind.{by-padding, by-equality, by-order}
 use Rattle.kinds.proofs.narrow_accepted.Statement.{statement}
 use Rattle.kinds.proofs.narrow_accepted.Tie as tie
 
-narrow-equal-requires : tie.Need-narrow-equal-requires
-narrow-equal-requires c κs =
-    let p = c .before .before .before .before .before .before .before .pre in
-    let x = p .1 .0 .first in
-    let y = p .1 .0 .second in
-    ((accepted-whole x, accepted-whole y), ((accepted-few x, accepted-few y), p .1 .1))
+-- accepted shapes are whole, and of few blocks
+whole : {xs ys : List ℕ} → PairAccepted xs ys → (Whole xs × Whole ys) × ((length xs ≤ 128) × (length ys ≤ 128))
+whole p = ((accepted-whole (p .first), accepted-whole (p .second)), (accepted-few (p .first), accepted-few (p .second)))
+
+narrow-padded-requires : tie.Need-narrow-padded-requires
+narrow-padded-requires c κs = let p = c .before .before .before .before .before .before .before .pre in let w = whole (p .1 .0) in (w .0, (w .1, p .1 .1))
 
 same-length : tie.Need-same-length
 same-length c = search needs
@@ -19,10 +24,10 @@ same-length-2 : tie.Need-same-length-2
 same-length-2 c = search needs
 
 returns : tie.Need-returns
-returns c = by-equality _ (c .before .before .before .before .before .before .before .if1 .taken) (c .before .before .before .before .narrow-equal .ensures)
+returns c = by-padding _ (c .before .before .before .before .before .before .before .if1 .taken) (c .before .before .before .before .narrow-padded .ensures)
 
-narrow-order-requires : tie.Need-narrow-order-requires
-narrow-order-requires c κs = let p = c .before .before .before .before .before .before .before .pre in (p .1 .0 .first, (p .1 .0 .second, p .1 .1))
+narrow-exact-requires : tie.Need-narrow-exact-requires
+narrow-exact-requires c κs = let p = c .before .before .before .before .before .before .before .before .pre in let w = whole (p .1 .0) in (w .0, (w .1, p .1 .1))
 
 same-length-3 : tie.Need-same-length-3
 same-length-3 c = search needs
@@ -31,9 +36,33 @@ same-length-4 : tie.Need-same-length-4
 same-length-4 c = search needs
 
 returns-2 : tie.Need-returns-2
-returns-2 c = let n = c .before .before .before .before .narrow-order .ensures in by-order _ (c .before .before .before .before .before .before .before .before .before .before .before .before .pre .0) (c .before .before .before .before .before .before .before .if1 .left) (n .0) (n .1)
+returns-2 c = by-equality _ (c .before .before .before .before .before .before .before .if2 .taken) (c .before .before .before .before .narrow-exact .ensures)
+
+narrow-order-requires : tie.Need-narrow-order-requires
+narrow-order-requires c κs = let p = c .before .before .before .before .before .before .before .before .pre in (p .1 .0 .first, (p .1 .0 .second, p .1 .1))
+
+same-length-5 : tie.Need-same-length-5
+same-length-5 c = search needs
+
+same-length-6 : tie.Need-same-length-6
+same-length-6 c = search needs
+
+returns-3 : tie.Need-returns-3
+returns-3 c = let n = c .before .before .before .before .narrow-order .ensures in by-order _ (c .before .before .before .before .before .before .before .before .before .before .before .before .before .pre .0) (c .before .before .before .before .before .before .before .before .if1 .left) (c .before .before .before .before .before .before .before .if2 .left) (n .0) (n .1)
 
 pub narrow-accepted-spec : {M : Type 1} → statement M
 narrow-accepted-spec =
     tie.close
-    (tie.spec narrow-equal-requires same-length same-length-2 returns narrow-order-requires same-length-3 same-length-4 returns-2)
+    (tie.spec
+    narrow-padded-requires
+    same-length
+    same-length-2
+    returns
+    narrow-exact-requires
+    same-length-3
+    same-length-4
+    returns-2
+    narrow-order-requires
+    same-length-5
+    same-length-6
+    returns-3)

@@ -1,7 +1,7 @@
--- `equals::narrow_equal`: there is room for two rows of each of 32 blocks. Assumes nothing.
+-- `equals::narrow_but`: there is room for two rows of each of 32 blocks. Assumes nothing.
 use borrow.Author.Needs.{needs}
-use Rattle.equals.proofs.narrow_equal.Statement.{statement}
-use Rattle.equals.proofs.narrow_equal.Tie as tie
+use Rattle.equals.proofs.narrow_but.Statement.{statement}
+use Rattle.equals.proofs.narrow_but.Tie as tie
 
 blank-requires : tie.Need-blank-requires
 blank-requires c κs = search needs
@@ -27,8 +27,8 @@ same-length-2 c = search needs
 returns : tie.Need-returns
 returns c = search needs
 
-pub narrow-equal-spec : {M : Type 1} → statement M
-narrow-equal-spec =
+pub narrow-but-spec : {M : Type 1} → statement M
+narrow-but-spec =
     tie.close
     (tie.spec
     blank-requires

@@ -1,8 +1,8 @@
--- `dashed::narrow_equal`: the relation of its kind. Assumes nothing.
+-- `dashed::narrow_exact`: the relation of its kind. Assumes nothing.
 use Rattle.texts.specs.Kind.{relationOf}
 use borrow.Author.Needs.{needs}
-use Rattle.dashed.proofs.narrow_equal.Statement.{statement}
-use Rattle.dashed.proofs.narrow_equal.Tie as tie
+use Rattle.dashed.proofs.narrow_exact.Statement.{statement}
+use Rattle.dashed.proofs.narrow_exact.Tie as tie
 
 narrow-requires : tie.Need-narrow-requires
 narrow-requires c κs = search needs
@@ -20,6 +20,6 @@ returns : tie.Need-returns
 unfolding relationOf
 returns c = c .before .before .before .before .before .before .narrow .ensures
 
-pub narrow-equal-spec : {M : Type 1} → statement M
-narrow-equal-spec =
+pub narrow-exact-spec : {M : Type 1} → statement M
+narrow-exact-spec =
     tie.close (tie.spec narrow-requires same-length same-length-2 same-length-3 returns)
