@@ -84,42 +84,79 @@ uint64_t rows_fits(const uint64_t *s, size_t n, const uint8_t *t, size_t k) {
     return after.a & 1;
 }
 
+// Each number d down, where d is 64, 128 or less than 64.
+static inline __attribute__((always_inline)) struct row lower(struct row r, int d) {
+    if (d == 64) return (struct row){r.b, r.c, r.d, 0};
+    if (d == 128) return (struct row){r.c, r.d, 0, 0};
+    return (struct row){r.a >> d | r.b << (64 - d), r.b >> d | r.c << (64 - d), r.c >> d | r.d << (64 - d), r.d >> d};
+}
+
+// Rows added as numbers; what goes past 255 is lost.
+static inline struct row plus(struct row r, struct row s) {
+    struct row t;
+    uint64_t c = __builtin_add_overflow(r.a, s.a, &t.a), e = __builtin_add_overflow(r.b, s.b, &t.b);
+    c = e | __builtin_add_overflow(t.b, c, &t.b);
+    e = __builtin_add_overflow(r.c, s.c, &t.c);
+    c = e | __builtin_add_overflow(t.c, c, &t.c);
+    t.d = r.d + s.d + c;
+    return t;
+}
+
+static inline struct row differ(struct row r, struct row s) { return (struct row){r.a ^ s.a, r.b ^ s.b, r.c ^ s.c, r.d ^ s.d}; }
+
 // A shape laid out by position: of each block its positions, those where its run may end early (its zone), and the position past it; all zones in one.
 struct laid {
     size_t blocks, total;
-    struct row slots[32], zones[32], ends[32], free;
+    struct row slots[32], zones[32], ends[32], free, stops, spans[8]; // from where 1, 2, 4 .. free positions follow each other
+    int count;                                                        // of the spans, as many as the longest run of free positions wants
 };
 
 static void lay(const uint64_t *s, size_t n, struct laid *to) {
     size_t p = 0;
-    to->free = none;
+    size_t run = 0, most = 0, at = 0;
+    to->free = to->stops = none;
     for (size_t j = 0; j < n / 4; j++) {
         size_t e = p + s[4 * j + 3];
         to->slots[j] = between(p, e);
         to->zones[j] = between(p + s[4 * j + 2], e);
         to->free = either(to->free, to->zones[j]);
         to->ends[j] = single(e);
+        if (s[4 * j + 2] < s[4 * j + 3]) {
+            to->stops = either(to->stops, to->ends[j]);
+            run = (p + s[4 * j + 2] == at ? run : 0) + s[4 * j + 3] - s[4 * j + 2];
+            at = e;
+            if (run > most) most = run;
+        }
         p = e;
     }
     to->blocks = n / 4;
     to->total = p;
-}
-
-// A row with the ends of the runs that may end in it; a zone lies before its end, so once through the blocks is enough.
-static inline struct row forward(const struct laid *y, struct row r) {
-    for (size_t j = 0; j < y->blocks; j++)
-        if (meet(r, y->zones[j])) r = either(r, y->ends[j]);
-    return r;
-}
-
-// The same backwards; `quit` gathers the zones that are let in.
-static inline struct row backward(const struct laid *y, struct row r, struct row *quit) {
-    for (size_t j = y->blocks; j-- > 0;) {
-        if (!meet(r, y->ends[j])) continue;
-        r = either(r, y->zones[j]);
-        *quit = either(*quit, y->zones[j]);
+    to->count = 0;
+    struct row span = to->free;
+#define SPAN(d) \
+    if (most > d) { \
+        to->spans[to->count++] = span; \
+        span = both(span, lower(span, d)); \
     }
-    return r;
+    SPAN(1) SPAN(2) SPAN(4) SPAN(8) SPAN(16) SPAN(32) SPAN(64) SPAN(128)
+}
+
+// A row with the ends of the runs that may end in it: the carries of a sum go from a position of the row through free ones to where they stop.
+static inline struct row forward(const struct laid *y, struct row r) {
+    struct row x = both(r, y->free);
+    return either(r, both(differ(differ(plus(x, y->free), x), y->free), y->stops));
+}
+
+// The same backwards, by twice as many positions each time; `quit` gathers the positions that are let in.
+static inline struct row backward(const struct laid *y, struct row r, struct row *quit) {
+    struct row g = both(down(both(r, y->stops)), y->free);
+#define FALL(d, l) \
+    if (y->count > l) g = either(g, both(lower(g, d), y->spans[l])); \
+    else goto done;
+    FALL(1, 0) FALL(2, 1) FALL(4, 2) FALL(8, 3) FALL(16, 4) FALL(32, 5) FALL(64, 6) FALL(128, 7)
+done:
+    *quit = either(*quit, g);
+    return either(r, g);
 }
 
 // The positions of the blocks that share a character with these.
@@ -293,7 +330,7 @@ static inline void read_on(struct side *s, int again, size_t c) {
     uint64_t base[2] = {c < 64 ? 1ull << c : 0, c < 64 ? 0 : 1ull << (c - 64)};
     if (!again) s->takes = matching(base, s->shape, &s->laid);
     s->row = up(both(s->row, s->takes));
-    if (meet(s->row, s->laid.free)) s->row = forward(&s->laid, s->row);
+    s->row = forward(&s->laid, s->row);
 }
 
 // A base, and the least character that two share; 128 if there is none.

@@ -4,7 +4,7 @@ from itertools import product
 
 from bounds import bound, earlier, fits
 from making import (
-    INPUT_ROOM, ONE_EACH, TWO_BAD, Dice, block, hexes, hold_to_ways, large_shape, many_blocks, numbers_read,
+    ONE_EACH, TWO_BAD, Dice, block, hexes, hold_lines_to_room, hold_to_ways, large_shape, many_blocks, numbers_read,
     random_filling, random_text, small_shape, unsound_blocks, written,
 )
 from shapes import FEW_FILLINGS, Refused, agree, all_texts, fillings, shape_of
@@ -334,6 +334,7 @@ OUTPUT_LETTERS = "LG"
 
 def hold_to_room(lines):
     """Raises where a case is more than the program has room for."""
+    hold_lines_to_room(lines)
     for line in lines:
         letter, *fields = line.split(" ")
         texts = TEXT_FIELDS.get(letter, 0)
@@ -344,5 +345,3 @@ def hold_to_room(lines):
         room = room and all(int(length, 16) <= LONGEST_OUTPUT for length in output)
         if not room:
             raise AssertionError(f"no room for this case: {line}")
-    if sum(len(line) + 1 for line in lines) >= INPUT_ROOM:
-        raise AssertionError("no room for so many cases")

@@ -3,7 +3,7 @@
 from itertools import permutations, product
 
 from making import (
-    ONE_EACH, TWO_BAD, Dice, block, carved, counted, hexes, hold_lines_to_room, large_shape, lists_read, many_blocks,
+    ONE_EACH, TWO_BAD, Dice, block, carved, counted, hexes, hold_numbers_to_room, large_shape, lists_read, many_blocks,
     numbers_read, padded_anew, random_filling, random_text, shared_out, small_blocks, unsound_blocks, words_of, written,
 )
 from joins import JOIN, narrowed_join
@@ -657,6 +657,6 @@ def all_cases():
 
 
 def hold_to_room(lines):
-    hold_lines_to_room(lines, MOST_NUMBERS)
+    hold_numbers_to_room(lines, MOST_NUMBERS)
     if any(int(line.split(" ")[1], 16) > LONGEST_WORK for line in lines):
         raise AssertionError("a work buffer that is too long")

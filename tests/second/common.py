@@ -10,7 +10,7 @@ from functools import lru_cache
 from base import OUTPUT_WANTED, text_shown
 from bounds import bound, fits
 from making import (
-    Dice, block, carved, counted, edge_pairs, hexes, hold_lines_to_room, large_pair, lists_read, numbers_read,
+    Dice, block, carved, counted, edge_pairs, hexes, hold_numbers_to_room, large_pair, lists_read, numbers_read,
     refused_pairs, small_blocks, small_pair, written,
 )
 from narrow import TABLE, work_shown
@@ -24,7 +24,6 @@ from sweep import places
 SMALL_FILLINGS = 600
 
 # What the program has room for.
-MOST_NUMBERS = 420
 LONGEST_OUTPUT = 300
 LONGEST_WORK = 70_000
 
@@ -445,7 +444,7 @@ def all_cases():
 
 
 def hold_to_room(lines):
-    hold_lines_to_room(lines, MOST_NUMBERS)
+    hold_numbers_to_room(lines)
     for line in lines:
         work, length = numbers_read(line.split(" ")[1:3])
         if work > LONGEST_WORK or length > LONGEST_OUTPUT:

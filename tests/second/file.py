@@ -14,7 +14,7 @@ from book import (
 )
 from joins import JOIN
 from making import (
-    LARGE_INPUT_ROOM, ONE_EACH, TWO_BAD, Dice, block, many_blocks, unsound_blocks, words_of, written,
+    ONE_EACH, TWO_BAD, Dice, block, hold_lines_to_room, many_blocks, unsound_blocks, words_of, written,
 )
 from narrow import TOGETHER, by_turns
 from pairs import AT_MOST, BEFORE, EQUAL, EQUALITIES, EXACT
@@ -643,7 +643,7 @@ def changed_cases(cases):
         cases.file(EXAMPLE[:at])
         cases.file(EXAMPLE[at:])
         cases.file(EXAMPLE[:at] + EXAMPLE[at + 1 :])
-        for byte in b"09a \n\0":
+        for byte in b"09a \n\0\xff":
             if byte != EXAMPLE[at]:
                 cases.file(EXAMPLE[:at] + bytes([byte]) + EXAMPLE[at + 1 :])
     for at in range(len(EXAMPLE) + 1):
@@ -697,9 +697,8 @@ def all_cases():
 
 
 def hold_to_room(lines):
+    hold_lines_to_room(lines)
     for line in lines:
         _, length, field = line.split(" ")
         if len(bytes_read(field)) > LONGEST_FILE or int(length, 16) > LONGEST_REPORT:
             raise AssertionError(f"no room for this case: {line}")
-    if sum(len(line) + 1 for line in lines) >= LARGE_INPUT_ROOM:
-        raise AssertionError("no room for so many cases")

@@ -87,10 +87,9 @@ FEW_WORKS = (0, WORK_WANTED - 1, WORK_WANTED)
 
 
 def example_cases(cases):
-    """Document 01's book with every length of both buffers, those of examples/ with some."""
-    cases.each(EXAMPLE, REPORTS, WORKS)
-    for book in example_files():
-        cases.each(book, FEW_REPORTS, FEW_WORKS)
+    """The books of examples/ and document 01's, with every length of both buffers."""
+    for book in (EXAMPLE, *example_files()):
+        cases.each(book, REPORTS, WORKS)
     # A book whose rule says none, and one without rules.
     cases.each(file_of([written("a1..1"), written("b1..1")], [(EQUAL, 1, 2)]), REPORTS, WORKS)
     cases.each(file_of([GOOD], []), REPORTS, WORKS)

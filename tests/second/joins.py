@@ -2,7 +2,8 @@
 
 Two methods, held to each other. Where fillings are few, every triple of texts is looked at. Otherwise
 rows of bit sets, first over the states of the whole and the front, then over those of the whole and the
-back; between them lie the states of the whole at which the front may end and the back begin.
+back; between them lie the states of the whole at which the front may end and the back begin. The library
+lays front and back end to end, but goes through rows as well; witnesses.py holds the answers to fillings.
 """
 
 from functools import lru_cache

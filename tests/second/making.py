@@ -4,9 +4,12 @@ import re
 
 from shapes import MOST_BLOCKS, MOST_CHARACTERS, Refused, agree, fillings, shape_of
 
-# Every program reads all of its input at once. Most have room for so much, those of narrowing and of files for more.
-INPUT_ROOM = 400_000
-LARGE_INPUT_ROOM = 1_000_000
+# Every program reads its input line by line: so many lines, each with its newline in a buffer of so many bytes.
+MOST_LINES = 1_000_000
+LINE_ROOM = 65_536
+
+# Most have room for so many numbers of a line: three shapes, six numbers to a block, and what stands before them.
+MOST_NUMBERS = 640
 
 # What the cells of an output of numbers hold before a call.
 NUMBER_FILLER = 0xA5A5
@@ -42,14 +45,22 @@ def lists_read(numbers, count):
     return lists
 
 
-def hold_lines_to_room(lines, most_numbers, room=INPUT_ROOM):
-    """Raises where a program with room for so many bytes, and so many numbers to a line, could not read the lines."""
+def hold_lines_to_room(lines):
+    """Raises where a program could not read the lines."""
+    for line in lines:
+        if len(line) + 1 > LINE_ROOM:
+            raise AssertionError(f"no room for this line: {line}")
+    if len(lines) > MOST_LINES:
+        raise AssertionError("no room for so many cases")
+
+
+def hold_numbers_to_room(lines, most_numbers=MOST_NUMBERS):
+    """Raises where a program with room for so many numbers to a line could not read the lines."""
+    hold_lines_to_room(lines)
     for line in lines:
         fields = line.split(" ")[1:]
         if len(fields) > most_numbers or any(len(field) > 16 for field in fields):
             raise AssertionError(f"no room for this case: {line}")
-    if sum(len(line) + 1 for line in lines) >= room:
-        raise AssertionError("no room for so many cases")
 
 
 # Shapes as they are written.

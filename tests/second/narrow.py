@@ -6,8 +6,8 @@ import joins
 import pairs
 from joins import JOIN, narrowed_join
 from making import (
-    LARGE_INPUT_ROOM, NUMBER_FILLER, ONE_EACH, PADDED_ALPHABETS, Dice, block, carved, counted, edge_pairs, hexes,
-    hold_lines_to_room, large_pair, lists_read, many_blocks, numbers_read, padded_anew, random_filling, refused_pairs,
+    NUMBER_FILLER, ONE_EACH, PADDED_ALPHABETS, Dice, block, carved, counted, edge_pairs, hexes,
+    hold_numbers_to_room, large_pair, lists_read, many_blocks, numbers_read, padded_anew, random_filling, refused_pairs,
     shared_out, small_blocks, small_pair, unsound_blocks, words_of, written,
 )
 from pairs import AT_MOST, BEFORE, EQUAL, EQUALITIES, EXACT, FEW_FILLINGS, KINDS, narrowed
@@ -17,7 +17,6 @@ from shapes import (
 from sweep import places
 
 # What the program has room for.
-MOST_NUMBERS = 420
 LONGEST_OUTPUT = 200
 LONGEST_WORK = 70_000
 
@@ -547,6 +546,51 @@ def large_join_cases(cases):
     cases.join(*[block((), 0, 0) * MOST_BLOCKS] * 3)
 
 
+def steep(dice, codes, runs, count, late, rising):
+    """A shape of so many blocks for a text of runs, (code, length) each, some of them cut in two. Besides its own code
+    a block may hold those above it, or below it; in the late runs all."""
+    parts = [[at, code, length] for at, (code, length) in enumerate(runs)]
+    while len(parts) < count:
+        at = dice.below(len(parts))
+        if parts[at][2] > 1:
+            number, code, length = parts[at]
+            cut = dice.between(1, length - 1)
+            parts[at : at + 1] = [number, code, cut], [number, code, length - cut]
+    words = []
+    for number, code, length in parts:
+        other = [one for one in codes if number >= late or (one > code if rising else one < code)]
+        base = {code, *(dice.some(other) if other else ())}
+        lower = max(0, length - dice.pick((0, 0, 0, 1)))
+        words += block(sorted(base), lower, length + dice.pick((0, 0, 0, 1)) * (number >= late))
+    return words
+
+
+def steep_runs(dice, codes):
+    """A text of 24 runs, and the first of its late ones."""
+    return [(dice.pick(codes), dice.between(7, 9)) for _ in range(24)], dice.between(8, 22)
+
+
+STEEP_ALPHABETS = (b"ABCDEFGH", range(60, 70), range(28, 38), range(0, 128, 5))
+
+
+def steep_cases(cases):
+    """Large shapes that leave little of each other: the least texts of one and the greatest of the other are alike for
+    long, so that most blocks lose characters."""
+    dice = Dice(27)
+    for _ in range(6):
+        codes = dice.pick(STEEP_ALPHABETS)
+        runs, late = steep_runs(dice, codes)
+        pair = [steep(dice, codes, runs, dice.between(26, MOST_BLOCKS), late, rising) for rising in (True, False)]
+        cases.kinds(*pair)
+    for _ in range(4):
+        codes = dice.pick(STEEP_ALPHABETS)
+        runs, late = steep_runs(dice, codes)
+        cut = dice.between(6, 18)
+        front = steep(dice, codes, runs[:cut], 26, late, False)
+        back = steep(dice, codes, runs[cut:], 26, max(0, late - cut), False)
+        cases.join(steep(dice, codes, runs, MOST_BLOCKS, late, True), front, back)
+
+
 def join_cases(cases):
     join_table_cases(cases)
     join_lent_cases(cases)
@@ -574,14 +618,18 @@ def all_cases():
     dice = Dice(21)
     for _ in range(790):
         cases.kinds(*small_pair(dice, FEW_FILLINGS))
+    more = Dice(dice.state)
+    for _ in range(30):
+        cases.kinds(*small_pair(more, FEW_FILLINGS))
     for _ in range(24):
         cases.kinds(*large_pair(dice))
     join_cases(cases)
+    steep_cases(cases)
     return cases.lines
 
 
 def hold_to_room(lines):
-    hold_lines_to_room(lines, MOST_NUMBERS, LARGE_INPUT_ROOM)
+    hold_numbers_to_room(lines)
     for line in lines:
         kind, work, lengths, _ = case_read(line)
         if kind not in (*KINDS, JOIN) or work > LONGEST_WORK or max(lengths) > LONGEST_OUTPUT:

@@ -3,7 +3,8 @@
 Since document 02, order 5, a text may equal another once the blanks at the end of both are dropped, or to its
 last character. Two methods, held to each other. Where fillings are few, every pair of texts is looked at.
 Otherwise rows of bit sets over the states in which two fillings can be while their texts are still alike;
-where padding does not count, also over those in which one has ended and the other goes on over blanks.
+where padding does not count, also over those in which one has ended and the other goes on over blanks. This
+second method is near to the library's own; witnesses.py holds it to fillings on large shapes.
 """
 
 from functools import lru_cache

@@ -1,13 +1,16 @@
 #!/usr/bin/env python3
 """The second program for dashed strings, written from the papers alone.
 
-It makes the test input of each test program and works out by other methods what that program has to
-print. Nothing in it is taken from the proved library.
+It makes the test input of each test program and works out what that program has to print. Nothing in it is
+taken from the proved library, and its methods are others, but for one: on large shapes narrowing goes through
+rows of sets, near to the library's own method (pairs.py, joins.py). So its answers there are held to fillings
+that are looked at by the definition alone (witnesses.py).
 
-    second.py cases NAME       prints the test input of a program, always the same
-    second.py expected NAME    reads a test input of that program and prints the expected output
-    second.py report           reads a book's file and prints the report that is due
-    second.py example          prints document 01's book, its rule of four numbers
+    second.py cases NAME               prints the test input of a program, always the same
+    second.py expected NAME            reads a test input of that program and prints the expected output
+    second.py report                   reads a book's file and prints the report that is due
+    second.py example                  prints document 01's book, its rule of four numbers
+    second.py witnesses CASES LINES    holds the expected lines of large cases of narrowing to fillings
 
 NAME is base, sweep, narrow, common, book, file or host. A case is a line, its fields parted by single blanks. A number
 is lowercase hex without needless zeros. A list is its count and then its numbers; a shape is lent as any
@@ -64,6 +67,7 @@ bytes are 0 and the rest as found, kept where all of it is as found.
 """
 
 import sys
+from pathlib import Path
 
 import base
 import book
@@ -72,11 +76,12 @@ import file
 import host
 import narrow
 import sweep
+import witnesses
 
 NAMES = {"base": base, "sweep": sweep, "narrow": narrow, "common": common, "book": book, "file": file, "host": host}
 
-# More than a stored output should have.
-OUTPUT_ROOM = 1_200_000
+# More than a stored file should have.
+STORED_ROOM = 2_000_000
 
 
 def main(arguments):
@@ -84,8 +89,13 @@ def main(arguments):
         file.hold_to_example()
         sys.stdout.buffer.write(file.EXAMPLE if arguments == ["example"] else file.report(sys.stdin.buffer.read()))
         return
+    if len(arguments) == 3 and arguments[0] == "witnesses":
+        cases, searched, met = witnesses.hold(*(Path(name).read_text().splitlines() for name in arguments[1:]))
+        print(f"{cases} large cases held to {searched} fillings searched for and {met} met by chance")
+        return
     if len(arguments) != 2 or arguments[0] not in ("cases", "expected") or arguments[1] not in NAMES:
-        sys.exit(f"second.py cases NAME | expected NAME | report | example, NAME one of {', '.join(NAMES)}")
+        usage = "second.py cases NAME | expected NAME | report | example | witnesses CASES LINES"
+        sys.exit(f"{usage}, NAME one of {', '.join(NAMES)}")
     part = NAMES[arguments[1]]
     if arguments[0] == "cases":
         lines = part.all_cases()
@@ -93,7 +103,7 @@ def main(arguments):
     else:
         lines = [part.expected_line(line) for line in sys.stdin.read().splitlines()]
     text = "".join(line + "\n" for line in lines)
-    if len(text) >= OUTPUT_ROOM:
+    if len(text) >= STORED_ROOM:
         raise AssertionError("more than should be stored")
     sys.stdout.write(text)
 

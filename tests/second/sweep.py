@@ -3,7 +3,7 @@
 from functools import lru_cache
 
 from making import (
-    NUMBER_FILLER, Dice, counted, edge_pairs, hexes, hold_lines_to_room, large_pair, lists_read, numbers_read,
+    NUMBER_FILLER, Dice, counted, edge_pairs, hexes, hold_numbers_to_room, large_pair, lists_read, numbers_read,
     refused_pairs, small_pair, written,
 )
 from pairs import EXACT, narrowed_by_rows
@@ -14,7 +14,6 @@ FEW_PAIRS = 40_000
 FEW_FILLINGS = 400
 
 # What the program has room for.
-MOST_NUMBERS = 420
 LONGEST_OUTPUT = 200
 
 
@@ -274,6 +273,6 @@ def all_cases():
 
 
 def hold_to_room(lines):
-    hold_lines_to_room(lines, MOST_NUMBERS)
+    hold_numbers_to_room(lines)
     if any(int(line.split(" ")[1], 16) > LONGEST_OUTPUT for line in lines):
         raise AssertionError("an output that is too long")

@@ -29,7 +29,7 @@ fn run_rounds(counts: &[u64], numbers: &mut [u64], rules: &[u64]) -> Ended
             k = 0;
             changed = false;
         } else {
-            match book_steps::apply_rule(counts, numbers, rules, k) {
+            match book_applies::apply_rule(counts, numbers, rules, k) {
                 Applied::None => return Ended::None(made + 1),
                 Applied::Same => {
                     k += 1;
@@ -49,7 +49,7 @@ fn run_rounds(counts: &[u64], numbers: &mut [u64], rules: &[u64]) -> Ended
 pub fn run_book(counts: &[u64], blocks: &mut [u64], rules: &[u64], work: &mut [u8]) -> Ran
     ensures { λ r. ⌜ RunPromise (now (counts .entry)) (now (blocks .entry)) (now (rules .entry)) (now (work .entry)) (now (blocks .exit)) (now (work .exit)) r ⌝ }
 {
-    match books::check_book(counts, blocks, rules, work.len()) {
+    match book_checks::check_book(counts, blocks, rules, work.len()) {
         Checked::Refused(r) => Ran::Refused(r),
         Checked::Sound => {
             pairs::clear(work);

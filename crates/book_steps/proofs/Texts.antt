@@ -11,25 +11,25 @@ use Rattle.joins.specs.Join.{JoinAnswer}
 use Rattle.shapes.specs.Lent.{Accepted}
 use Rattle.laying.specs.Laid.{replaced}
 use Rattle.laying.proofs.Laid.{read-there}
-use Rattle.books.specs.declared.Place.{Place}
+use Rattle.books.specs.declared.Range.{Range}
 use Rattle.books.specs.Counts.{countOf, firstOf}
-use Rattle.books.specs.Code.{PlaceOf, numbersIn}
-use Rattle.books.proofs.Part.{place-part}
+use Rattle.books.specs.Code.{RangeOf, numbersIn}
+use Rattle.books.proofs.Part.{range-part}
 
 -- the numbers at a place
-abbrev pub at : List ℕ → Place → List ℕ
+abbrev pub at : List ℕ → Range → List ℕ
 at xs p = take (p .to - p .from) (drop (p .from) xs)
 
 -- an accepted shape has at most 128 numbers
 pub few-numbers : {xs : List ℕ} → Accepted xs → length xs ≤ 128
 few-numbers a = let few = a .right .few in let whole = a .right .whole in omega arith
 
-module _ {counts : List ℕ} {k : ℕ} {p : Place} (e : PlaceOf counts k p) where
+module _ {counts : List ℕ} {k : ℕ} {p : Range} (e : RangeOf counts k p) where
   pub size-is : p .to - p .from ≡ countOf counts k * 4
   size-is = let to = e .to in omega arith
 
   pub at-is : (xs : List ℕ) → at xs p ≡ numbersIn counts xs k
-  at-is xs = place-part counts xs k p e
+  at-is xs = range-part counts xs k p e
 
   pub taken-is : (x : List ℕ) → take (p .to - p .from) x ≡ take (countOf counts k * 4) x
   taken-is x = ap (λ (n : ℕ). take n x) size-is
@@ -46,13 +46,13 @@ module _ {counts : List ℕ} {k : ℕ} {p : Place} (e : PlaceOf counts k p) wher
       differ (ap₂ (λ (n : ℕ) (l : List ℕ). take n (drop (p .from) l)) (sym size) (sym same ∙ e) ∙ read-there (p .from) new xs (let s = size in omega arith))
 
 -- what narrowing answers of the numbers at two places
-pub answer-is : {R : List ℕ → List ℕ → Type 0} {counts : List ℕ} (xs : List ℕ) {a b : ℕ} {p q : Place} {ox oy ox′ oy′ : List ℕ} {r : Bool} → PlaceOf counts a p → PlaceOf counts b q
+pub answer-is : {R : List ℕ → List ℕ → Type 0} {counts : List ℕ} (xs : List ℕ) {a b : ℕ} {p q : Range} {ox oy ox′ oy′ : List ℕ} {r : Bool} → RangeOf counts a p → RangeOf counts b q
     → NarrowAnswer R (at xs p) (at xs q) ox oy ox′ oy′ r → NarrowAnswer R (numbersIn counts xs a) (numbersIn counts xs b) ox oy ox′ oy′ r
 answer-is {R} {counts} xs {ox = ox} {oy = oy} {ox′ = ox′} {oy′ = oy′} {r = r} e f n =
     subst₂ (λ (x y : List ℕ). NarrowAnswer R x y ox oy ox′ oy′ r) (at-is e xs) (at-is f xs) n
 
 -- what holds of the numbers at three places holds of those of the three texts there, and back
-pub at-three : {counts : List ℕ} (xs : List ℕ) {a b c : ℕ} {p q s : Place} → PlaceOf counts a p → PlaceOf counts b q → PlaceOf counts c s → (P : List ℕ → List ℕ → List ℕ → Type 0)
+pub at-three : {counts : List ℕ} (xs : List ℕ) {a b c : ℕ} {p q s : Range} → RangeOf counts a p → RangeOf counts b q → RangeOf counts c s → (P : List ℕ → List ℕ → List ℕ → Type 0)
     → P (at xs p) (at xs q) (at xs s) ↔ P (numbersIn counts xs a) (numbersIn counts xs b) (numbersIn counts xs c)
 at-three {counts} xs {a} {b} {s = s} e f g P = (
   λ h. subst (P (numbersIn counts xs a) (numbersIn counts xs b)) (at-is g xs) (subst₂ (λ (x y : List ℕ). P x y (at xs s)) (at-is e xs) (at-is f xs) h),
@@ -60,6 +60,6 @@ at-three {counts} xs {a} {b} {s = s} e f g P = (
 )
 
 -- what narrowing a join answers of the numbers at three places
-pub join-is : {counts : List ℕ} (xs : List ℕ) {a b c : ℕ} {p q s : Place} {ox oy oz ox′ oy′ oz′ : List ℕ} {r : Bool} → PlaceOf counts a p → PlaceOf counts b q → PlaceOf counts c s
+pub join-is : {counts : List ℕ} (xs : List ℕ) {a b c : ℕ} {p q s : Range} {ox oy oz ox′ oy′ oz′ : List ℕ} {r : Bool} → RangeOf counts a p → RangeOf counts b q → RangeOf counts c s
     → JoinAnswer (at xs p) (at xs q) (at xs s) ox oy oz ox′ oy′ oz′ r → JoinAnswer (numbersIn counts xs a) (numbersIn counts xs b) (numbersIn counts xs c) ox oy oz ox′ oy′ oz′ r
 join-is xs {ox = ox} {oy = oy} {oz = oz} {ox′ = ox′} {oy′ = oy′} {oz′ = oz′} {r = r} e f g n = at-three xs e f g (λ x y z. JoinAnswer x y z ox oy oz ox′ oy′ oz′ r) .0 n

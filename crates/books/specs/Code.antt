@@ -10,12 +10,12 @@ use Rattle.rules.specs.declared.Rule.{Rule}
 use Rattle.shapes.specs.All.{All}
 use Rattle.shapes.specs.Shape.{Block, blockSize}
 use Rattle.shapes.specs.Lent.{shapeOf}
-use Rattle.books.specs.declared.Place.{Place}
+use Rattle.books.specs.declared.Range.{Range}
 use Rattle.books.specs.Counts.{sumOf, RightCount, countOf, firstOf}
 use Rattle.books.specs.Refused.{SoundTexts, FirstText, SoundRule, RuleRefused, SoundRules, FirstRule}
 
 -- where text k stands among the numbers of all, four to a block, and that it stands within them
-pub record PlaceOf (counts : List ℕ) (k : ℕ) (r : Place) : Type 0 where
+pub record RangeOf (counts : List ℕ) (k : ℕ) (r : Range) : Type 0 where
   pub from : r .from ≡ firstOf counts k * blockSize
   pub to : r .to ≡ r .from + countOf counts k * blockSize
   pub within : r .to ≤ sumOf counts * blockSize

@@ -1,4 +1,5 @@
 // The pass from the ends that keeps its rows: for each position of one shape the row of the positions of the other from which one text leads both to their ends.
+use row_steps::Runs;
 use sets::Set;
 use shapes::Block;
 ghost use mathlib.Core.Path.{_≡_};
@@ -7,7 +8,8 @@ ghost use lib.ListN.{length};
 ghost use Rattle.sets.specs.Set.{setOf};
 ghost use Rattle.shapes.specs.Lent.{Whole, meant};
 ghost use Rattle.rows.specs.Row.{rowIn, rowCount, tableSize};
-ghost use Rattle.rows.specs.Steps.{InTurn};
+ghost use Rattle.rows.specs.Steps.{InTurn, Together};
+ghost use Rattle.carries.specs.Climb.{Spans};
 ghost use Rattle.row_paths.specs.Laid.{Laid};
 ghost use Rattle.common_back.specs.Back.{Whenever, BlockKept, RowsAfter, EndRows};
 
@@ -16,6 +18,8 @@ fn back_block(
     zones: &[u64],
     ends: &[u64],
     k: usize,
+    spans: &[u64],
+    runs: Runs,
     mine: Set,
     b: Block,
     p: usize,
@@ -24,6 +28,7 @@ fn back_block(
 ) -> Set
     requires { ⌜ (k ≤ rowCount (now zones)) × (k ≤ rowCount (now ends)) ⌝ }
     requires { ⌜ InTurn (rowIn (now zones)) (rowIn (now ends)) k ⌝ }
+    requires { ⌜ Together (rowIn (now zones)) (rowIn (now ends)) k (setOf (runs .free)) (setOf (runs .stops)) × Spans (setOf (runs .free)) (now spans) ⌝ }
     requires { ⌜ (p + b .upper ≤ 250) × (length (now rows) ≡ tableSize) ⌝ }
     ensures { λ r. ⌜ Whenever (rowIn (now (zones .entry))) (rowIn (now (ends .entry))) k (setOf mine) p (meant b) (BlockKept (setOf s) (now (rows .exit)) p (meant b) (setOf r)) ⌝ }
     ensures { λ _. ⌜ RowsAfter (p + b .upper) (now (rows .entry)) (now (rows .exit)) ⌝ }
@@ -33,11 +38,13 @@ fn back_block(
     while 0 < o {
         o -= 1;
         let step = sets::both(sets::down(row), mine);
-        let closed = row_steps::back(
+        let closed = row_steps::back_by(
             zones,
             ends,
             k,
-            equal_forth::with(step, s, b.lower <= o as u64),
+            spans,
+            runs,
+            row_steps::with(step, s, b.lower <= o as u64),
         );
         row = closed.row;
         rows::put_row(rows, p + o, row);
@@ -63,7 +70,10 @@ pub fn back(
 {
     let k = y.len() / shapes::SIZE;
     let m = shapes::total_upper(y) as usize;
-    let closed = row_steps::back(zones, ends, k, sets::single(m));
+    let runs = row_steps::all_runs(zones, ends, k);
+    let mut room = [0u64; 32];
+    let words = carries::spans(runs.free, &mut room);
+    let closed = row_steps::back_by(zones, ends, k, &room[..words], runs, sets::single(m));
     let mut row = closed.row;
     let mut p = shapes::total_upper(x) as usize;
     rows::put_row(rows, p, row);
@@ -74,6 +84,6 @@ pub fn back(
         p -= b.upper as usize;
         let mine = row_steps::matching(b.base, y, slots, k);
         rows::put_row(mines, i, mine);
-        row = back_block(zones, ends, k, mine, b, p, row, rows);
+        row = back_block(zones, ends, k, &room[..words], runs, mine, b, p, row, rows);
     }
 }

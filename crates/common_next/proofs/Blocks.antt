@@ -34,7 +34,7 @@ members-of P {left} e d = subst (λ (q : ℕ). Exactly left (λ i. Holds P i × 
 
 -- all characters there are
 pub near-all : {y : List ℕ} {Q near : ℕ} → Exactly near (λ c. c < 256) → Near y Q near
-near-all x = record { all = λ j c b q h. x .mark c b }
+near-all x = record { all = λ j c b q h. x .has c b }
 
 -- every character at the positions Q
 pub near-of : {y z e s : List ℕ} → Laid y z e s → {k : ℕ} → k ≡ length y / 4 → (Q : ℕ) {near : ℕ} → Exactly near (Matched (rowIn s) (λ i. blockAt y i .base) k Q) → Near y Q near
@@ -42,7 +42,7 @@ near-of {y} l d Q x = record {
   all = λ j c b q h.
       let r = slot-rows-at y d (l .lay) in
       let f = r .find j c h in
-      x .mark c (record { number = f .0; below = f .1; meets = record { shared = j; first = q; second = f .2 }; held = subst (λ (v : ℕ). Holds v c) (r .base (f .0) j (f .1) (f .2)) h });
+      x .has c (record { number = f .0; below = f .1; meets = record { shared = j; first = q; second = f .2 }; held = subst (λ (v : ℕ). Holds v c) (r .base (f .0) j (f .1) (f .2)) h });
 }
 
 -- ---- the slots of block a
@@ -64,7 +64,7 @@ module _ {x s : List ℕ} (l : Slotted x s) {a : ℕ} (h : a < length x / 4) whe
       let n = shape-length x in
       let u = ap (λ (b : Block). b .upper) (shape-at x a noBlock h) in
       let m = total-more x a h in
-      l .laid .lay .slot a (omega arith) .mark i (low, omega arith)
+      l .laid .lay .slot a (omega arith) .has i (low, omega arith)
 
 module _ (x y : List ℕ) (P Q : ℕ) where
   abbrev Chosen : (ℕ → Type 0) → ℕ → ℕ → Type 0
@@ -90,7 +90,7 @@ module _ (x y : List ℕ) (P Q : ℕ) where
         wider i d = let low = d .1 in let m = total-more x a h in (d .0, omega arith, λ g. let t = slot l h i (e .so i g .1) .0 in omega arith)
 
         narrower : (i : ℕ) → Holds P i × (i < total (take (a + 1) (shapeOf x))) × (Holds left i → ⊥) → Holds P i × (i < total (take a (shapeOf x)))
-        narrower i d = ⊎-elim (λ g. (d .0, g)) (λ g. absurd (d .2 (e .mark i (d .0, in-slot l h i g (d .1))))) (lt-or-le i (total (take a (shapeOf x))))
+        narrower i d = ⊎-elim (λ g. (d .0, g)) (λ g. absurd (d .2 (e .has i (d .0, in-slot l h i g (d .1))))) (lt-or-le i (total (take a (shapeOf x))))
 
     -- none of P is in it
     pub block-none : {row code kept : ℕ} → row ≡ rowIn s a → (Meets P row → ⊥) → Chosen (λ i. Holds P i × (i < total (take a (shapeOf x)))) code kept
@@ -156,7 +156,7 @@ module _ (x y : List ℕ) (P Q : ℕ) where
         meets : Exactly beside (λ j. Holds Q j × Meets (blockAt x a .base) (slotAt (shapeOf y) j .base))
         meets = exactly-as
             (λ j m. (m .0, t .mine a h .so j (subst (λ (q : ℕ). Holds q j) me (m .1))))
-            (λ j m. (m .0, subst (λ (q : ℕ). Holds q j) (sym me) (t .mine a h .mark j (m .1))))
+            (λ j m. (m .0, subst (λ (q : ℕ). Holds q j) (sym me) (t .mine a h .has j (m .1))))
             (both-exactly Q mine be)
 
         got : Enough (slotAt (shapeOf x)) (slotAt (shapeOf y)) (total (shapeOf x)) (total (shapeOf y)) P Q (blockAt x a .base) (total (take (a + 1) (shapeOf x))) least r

@@ -14,7 +14,7 @@ use Rattle.shapes.specs.Lent.{shapeOf, blockAt}
 use Rattle.rests.specs.Walk.{Walk, here, skip, slotAt}
 use Rattle.rests.proofs.Walks.{walk-append}
 use Rattle.rows.specs.Row.{rowIn}
-use Rattle.rows.specs.Steps.{Leads, there, step, Lands, Matched}
+use Rattle.rows.specs.Steps.{Leads, there, step, Matched}
 use Rattle.row_paths.specs.Laid.{Laid}
 use Rattle.row_paths.specs.Rows.{Zones}
 use Rattle.row_paths.proofs.Chars.{SlotRows}
@@ -22,7 +22,7 @@ use Rattle.row_paths.proofs.Laid.{laid-zones, laid-meets}
 use Rattle.row_paths.proofs.Shapes.{free-within, held-within}
 use Rattle.rests.proofs.Laid.{bounded}
 use Rattle.row_paths.proofs.Lent.{slot-rows-at}
-use Rattle.common_next.specs.Next.{Ended, After, Free}
+use Rattle.common_next.specs.Next.{Ended, After, Ending}
 use Rattle.common_next.specs.Code.{SharedAt, Sooner}
 
 -- ---- the ends of runs
@@ -42,12 +42,14 @@ module _ {X : ℕ → Block} {Z E : ℕ → ℕ} {k : ℕ} (z : Zones X Z E k) w
   ended-row x = exactly-as (λ q l. leads-ended l) (λ q w. walk-leads (w .walk) (there (w .held))) x
 
 -- where no run may end, nothing more
-pub ended-none : (x : List ℕ) (free s : ℕ) → Free x free → (Meets s free → ⊥) → Exactly s (Ended (slotAt (shapeOf x)) s)
-ended-none x free s f n = record { so = λ q h. record { from = q; held = h; walk = here refl }; mark = λ q w. at q (w .from) (w .held) (w .walk) }
+pub ended-none : (x : List ℕ) (free s : ℕ) {stops : ℕ} → Ending x free stops → (Meets s free → ⊥) → Exactly s (Ended (slotAt (shapeOf x)) s)
+ended-none x free s f n = record { so = λ q h. record { from = q; held = h; walk = here refl }; has = λ q w. at q (w .from) (w .held) (w .walk) }
   where
     at : (q p : ℕ) → Holds s p → Walk (slotAt (shapeOf x)) q p [] → Holds s q
     at q p h (here e) = subst (Holds s) e h
-    at q p h (skip l w) = absurd (n (record { shared = p; first = h; second = f .mark p l }))
+    at q p h (skip l w) =
+        let g = laid-zones (f .laid) refl .find p l in
+        absurd (n (record { shared = p; first = h; second = f .all .free-is .has p (record { number = g .0; below = g .1; held = g .2 }) }))
 
 -- one character on
 pub row-after : (x : List ℕ) (row takes c : ℕ) {a u r : ℕ} → total (shapeOf x) ≤ 250 → Exactly takes (λ q. Holds (slotAt (shapeOf x) q .base) c) → a ≡ bitAnd row takes → u ≡ a * 2 % 2 ^ 256
@@ -69,19 +71,7 @@ row-after x row takes c {a} {u} short t d e y = exactly-as to from y
     from : (q : ℕ) → After (slotAt (shapeOf x)) row c q → Ended (slotAt (shapeOf x)) u q
     from q w =
         let b = held-within (shapeOf x) (w .from) c (w .takes) in
-        record { from = w .from + 1; held = up .mark (w .from + 1) (omega arith, record { number = w .from; held = held .mark (w .from) (w .held, t .mark (w .from) (w .takes)); next = refl }); walk = w .ends }
-
--- ---- where runs may end: from where a step lands in the row of all positions
-
-pub free-of : {x z e l : List ℕ} → Laid x z e l → {k all row quit : ℕ} → k ≡ length x / 4 → Exactly all (λ q. q < 256) → Exactly row (Leads (rowIn z) (rowIn e) k all) → Exactly quit (Lands (rowIn z) (rowIn e) k row) → Free x quit
-free-of {x} d e o r y = exactly-as
-    (λ q l. laid-zones d e .free (l .number) q (l .below) (l .from))
-    (λ q f.
-    let g = laid-zones d e .find q f in
-    let b = bounded (shapeOf x) .within q (free-within (shapeOf x) q f) in
-    let short = d .whole .short in
-    record { number = g .0; below = g .1; from = g .2; to = record { shared = _; first = g .3; second = r .mark _ (there (o .mark _ (omega arith))) } })
-    y
+        record { from = w .from + 1; held = up .has (w .from + 1) (omega arith, record { number = w .from; held = held .has (w .from) (w .held, t .has (w .from) (w .takes)); next = refl }); walk = w .ends }
 
 -- ---- the positions that take a character
 
@@ -89,7 +79,7 @@ pub takes-char : {x z e s : List ℕ} → Laid x z e s → {k one m code : ℕ} 
     → Exactly m (Matched (λ j. blockAt x j .base) (rowIn s) k one) → Exactly m (λ q. Holds (slotAt (shapeOf x) q .base) code)
 takes-char {x} l {code = code} d o y = exactly-as
     (λ q m. subst (Holds (slotAt (shapeOf x) q .base)) (o .so (m .shared) (m .second)) (m .first))
-    (λ q h. record { shared = code; first = h; second = o .mark code refl })
+    (λ q h. record { shared = code; first = h; second = o .has code refl })
     (laid-meets l d y)
 
 -- ---- the characters that a base shares with those at some positions
@@ -108,7 +98,7 @@ module _ {Y : ℕ → Block} {B S : ℕ → ℕ} {k : ℕ} (s : SlotRows Y B S k
       from c w =
           let f = s .find (w .other) c (w .second) in (
             w .first,
-            x .mark c (record {
+            x .has c (record {
               number = f .0;
               below = f .1;
               meets = record { shared = w .other; first = w .held; second = f .2 };
@@ -130,10 +120,10 @@ module _ {Y : ℕ → Block} {base row code : ℕ} where
   module _ {shared : ℕ} (x : Exactly shared (SharedAt Y base row)) where
     pub sooner-none : Empty shared → Sooner Y base row code code
     unfolding Empty
-    sooner-none n = record { so = inl refl; no-later = omega arith; least = λ c w. absurd (n c (x .mark c w)) }
+    sooner-none n = record { so = inl refl; no-later = omega arith; least = λ c w. absurd (n c (x .has c w)) }
 
     pub sooner-found : (r : ℕ) → Least shared r → r < 256 → r < code → Sooner Y base row code r
-    sooner-found r l b h = record { so = inr (b, x .so r (l .held)); no-later = omega arith; least = λ c w. (l .least c (x .mark c w), b) }
+    sooner-found r l b h = record { so = inr (b, x .so r (l .held)); no-later = omega arith; least = λ c w. (l .least c (x .has c w), b) }
 
     pub sooner-kept : (r : ℕ) → Least shared r → r < 256 → code ≤ r → Sooner Y base row code code
-    sooner-kept r l b h = record { so = inl refl; no-later = omega arith; least = λ c w. let v = l .least c (x .mark c w) in (omega arith, omega arith) }
+    sooner-kept r l b h = record { so = inl refl; no-later = omega arith; least = λ c w. let v = l .least c (x .has c w) in (omega arith, omega arith) }

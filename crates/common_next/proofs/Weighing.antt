@@ -52,7 +52,7 @@ live-beside : {X Y : ℕ → Block} {U W : ℕ} (i row beside base Q : ℕ) {d h
     → d ≡ row / 2 → here ≡ bitAnd d beside → Exactly here (λ j. Holds Q j × Meets base (Y j .base) × Path X Y U W (i + 1) (j + 1))
 live-beside i row beside base Q {d} x y e g = exactly-as
     (λ j h. let o = y .so j (h .1) in (o .0, o .1, x .so (j + 1) (down-exactly row e .so j (h .0))))
-    (λ j h. (down-exactly row e .mark j (x .mark (j + 1) (h .2)), y .mark j (h .0, h .1)))
+    (λ j h. (down-exactly row e .has j (x .has (j + 1) (h .2)), y .has j (h .0, h .1)))
     (both-exactly d beside g)
 
 module _ {X Y : ℕ → Block} {U W P Q base E left code kept seen : ℕ} (w : Weighing X Y U W P Q base E left code kept seen) where
@@ -84,7 +84,7 @@ module _ {X Y : ℕ → Block} {U W P Q base E left code kept seen : ℕ} (w : W
     split : {c : ℕ} → MayCome X Y U W D′ Q c → MayCome X Y U W D Q c ⊎ ((j : ℕ) × Holds Q j × Goes X Y U W i j c)
     split {c} m = ⊎-elim
         (λ e. inr (m .other, m .held, subst (λ (h : ℕ). Goes X Y U W h (m .other) c) e (m .goes)))
-        (λ n. inl (record { own = m .own; other = m .other; has = (m .has .0, m .has .1, λ h. m .has .2 (less .mark (m .own) (h, n))); held = m .held; goes = m .goes }))
+        (λ n. inl (record { own = m .own; other = m .other; has = (m .has .0, m .has .1, λ h. m .has .2 (less .has (m .own) (h, n))); held = m .held; goes = m .goes }))
         (eq-or-ne (m .own) i)
 
     rest-inside : (e : ℕ) → Holds left′ e → Holds P e × (e < E) × (X e .base ≡ base)
@@ -95,7 +95,7 @@ module _ {X Y : ℕ → Block} {U W P Q base E left code kept seen : ℕ} (w : W
 
     module _ {here : ℕ} (beside : Exactly here (λ j. Holds Q j × Meets base (Y j .base) × Path X Y U W (i + 1) (j + 1))) where
       is-beside : {j c : ℕ} → Holds Q j → Goes X Y U W i j c → Holds here j
-      is-beside {j} {c} h g = beside .mark j (h, record { shared = c; first = own-base c (g .first); second = g .second }, g .on)
+      is-beside {j} {c} h g = beside .has j (h, record { shared = c; first = own-base c (g .first); second = g .second }, g .on)
 
       -- there both can take none: it is dropped
       weighed-bare : {kept′ : ℕ} → Empty here → Exactly kept′ (λ e. Holds kept e × (e ≡ i → ⊥)) → Weighing X Y U W P Q base E left′ code kept′ seen
@@ -104,7 +104,7 @@ module _ {X Y : ℕ → Block} {U W P Q base E left code kept seen : ℕ} (w : W
         least = least-more wider (λ c m. ⊎-elim (λ v. inl v) (λ v. absurd (n (v .0) (is-beside (v .1) (v .2)))) (split m)) (w .least);
         kept-all = record {
           so = λ e h. w .kept-all .so e (x .so e h .0);
-          live = λ e j c p q g. x .mark e (w .kept-all .live e j c p q g, λ s. n j (is-beside q (subst (λ (h : ℕ). Goes X Y U W h j c) s g)));
+          live = λ e j c p q g. x .has e (w .kept-all .live e j c p q g, λ s. n j (is-beside q (subst (λ (h : ℕ). Goes X Y U W h j c) s g)));
         };
         seen-all = w .seen-all;
         inside = rest-inside;
@@ -130,7 +130,7 @@ module _ {X Y : ℕ → Block} {U W P Q base E left code kept seen : ℕ} (w : W
           bound : (c j : ℕ) → Holds here j → Holds base c → Holds (Y j .base) c → (r ≤ c) × (r < 256)
           bound c j h f g = ⊎-elim
               (λ y. bound-seen c j y f g)
-              (λ n. s .least c (record { other = j; held = x .mark j (h, n); first = f; second = g }))
+              (λ n. s .least c (record { other = j; held = x .has j (h, n); first = f; second = g }))
               (held-or-not seen j)
 
           brings : SharedAt Y base fresh r → MayCome X Y U W D′ Q r

@@ -4,10 +4,10 @@ use mathlib.Core.Path.{_≡_}
 use mathlib.Core.List.{List, []}
 use Prim.Native.Nat.{ℕ, _+_, _≤_, _<_}
 use Rattle.bases.specs.Base.{Holds}
-use Rattle.sets.specs.Set.{Exactly}
-use Rattle.shapes.specs.Shape.{Block}
-use Rattle.shapes.specs.Lent.{shapeOf}
-use Rattle.rests.specs.Walk.{Walk, Path, slotAt}
+use Rattle.shapes.specs.Shape.{Block, blockCount}
+use Rattle.rests.specs.Walk.{Walk, Path}
+use Rattle.rows.specs.Row.{rowIn}
+use Rattle.rows.specs.Steps.{Together}
 use Rattle.row_paths.specs.Laid.{Laid}
 
 -- Both take c, at i and j, and from there one text leads both to their ends.
@@ -47,9 +47,13 @@ pub record After (X : ℕ → Block) (P c q : ℕ) : Type 0 where
   pub takes : Holds (X from .base) c
   pub ends : Walk X q (from + 1) []
 
--- Where a run of the shape x may end.
-abbrev pub Free : List ℕ → ℕ → Type 0
-Free x free = Exactly free (λ q. slotAt (shapeOf x) q .lower ≡ 0)
+-- Where a run of the shape x may end, and where it then is: all zones and all ends of its rows.
+pub record Ending (x : List ℕ) (free stops : ℕ) : Type 0 where
+  pub zones : List ℕ
+  pub ends : List ℕ
+  pub slots : List ℕ
+  pub laid : Laid x zones ends slots
+  pub all : Together (rowIn zones) (rowIn ends) (blockCount x) free stops
 
 -- A lent shape and the rows of its blocks' positions.
 pub record Slotted (x slots : List ℕ) : Type 0 where

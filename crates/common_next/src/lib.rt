@@ -1,7 +1,9 @@
 // One character more of a common text: which is the least that may come, and to which positions it leads.
+use row_steps::Runs;
 use sets::Set;
 ghost use mathlib.Core.Path.{_≡_};
 ghost use mathlib.Core.Bool.{true};
+ghost use mathlib.Core.List.{List};
 ghost use Prim.Native.Nat.{ℕ, _+_, _<_};
 ghost use lib.ListN.{length};
 ghost use Rattle.bases.specs.Base.{Holds};
@@ -10,16 +12,16 @@ ghost use Rattle.shapes.specs.Shape.{blockCount};
 ghost use Rattle.shapes.specs.Lent.{shapeOf};
 ghost use Rattle.rests.specs.Walk.{slotAt};
 ghost use Rattle.rows.specs.Row.{tableSize};
-ghost use Rattle.row_paths.specs.Laid.{Laid};
 ghost use Rattle.common_back.specs.Back.{EndRows};
-ghost use Rattle.common_next.specs.Next.{Ended, After, Free, Slotted};
+ghost use Rattle.common_next.specs.Next.{Ended, After, Ending, Slotted};
 ghost use Rattle.common_next.specs.Code.{Sooner, WeighedBy, WeighedAll, Near, ChosenBy, ChosenTo};
 
-// Where the text so far leads in one shape, where its last character may stand in it, and where its runs may end.
+// Where the text so far leads in one shape, where its last character may stand in it, where its runs may end, and where they then are.
 pub struct Front {
     pub row: Set,
     pub takes: Set,
     pub free: Set,
+    pub stops: Set,
 }
 
 // The least character that may come next, and the positions that may take part in it.
@@ -49,42 +51,34 @@ fn taking(shape: &[u64], slots: &[u64], takes: Set, again: bool, code: usize) ->
 }
 
 // A row with what the ends of runs lead to from it; nothing more where no run may end.
-fn onward(shape: &[u64], zones: &[u64], ends: &[u64], slots: &[u64], free: Set, s: Set) -> Set
-    requires { ⌜ Laid (now shape) (now zones) (now ends) (now slots) ⌝ }
-    requires { ⌜ Free (now shape) (setOf free) ⌝ }
-    ensures { λ r. ⌜ Exactly (setOf r) (Ended (slotAt (shapeOf (now (shape .entry)))) (setOf s)) ⌝ }
+fn onward(free: Set, stops: Set, s: Set) -> Set
+    ensures { λ r. ⌜ ((x : List ℕ) → Ending x (setOf free) (setOf stops) → Exactly (setOf r) (Ended (slotAt (shapeOf x)) (setOf s))) ⌝ }
 {
     if sets::meets(s, free) {
-        return row_steps::forth(zones, ends, shape.len() / shapes::SIZE, s);
+        return row_steps::close_forth(Runs { free, stops }, s);
     }
     s
 }
 
 // One shape read one character on.
-pub fn read(
-    shape: &[u64],
-    zones: &[u64],
-    ends: &[u64],
-    slots: &[u64],
-    side: Front,
-    again: bool,
-    code: usize,
-) -> Front
-    requires { ⌜ Laid (now shape) (now zones) (now ends) (now slots) ⌝ }
-    requires { ⌜ (code < 256) × Free (now shape) (setOf (side .free)) ⌝ }
+pub fn read(shape: &[u64], slots: &[u64], side: Front, again: bool, code: usize) -> Front
+    requires { ⌜ Slotted (now shape) (now slots) ⌝ }
+    requires { ⌜ (code < 256) × Ending (now shape) (setOf (side .free)) (setOf (side .stops)) ⌝ }
     requires { ⌜ (again ≡ true → Exactly (setOf (side .takes)) (λ q. Holds (slotAt (shapeOf (now shape)) q .base) code)) ⌝ }
     ensures { λ r. ⌜ Exactly (setOf (r .takes)) (λ q. Holds (slotAt (shapeOf (now (shape .entry))) q .base) code) ⌝ }
     ensures { λ r. ⌜ Exactly (setOf (r .row)) (After (slotAt (shapeOf (now (shape .entry)))) (setOf (side .row)) code) ⌝ }
-    ensures { λ r. ⌜ Free (now (shape .entry)) (setOf (r .free)) ⌝ }
+    ensures { λ r. ⌜ Ending (now (shape .entry)) (setOf (r .free)) (setOf (r .stops)) ⌝ }
 {
     let row = side.row;
     let free = side.free;
+    let stops = side.stops;
     let takes = taking(shape, slots, side.takes, again, code);
     let taken = sets::up(sets::both(row, takes));
     Front {
-        row: onward(shape, zones, ends, slots, free, taken),
+        row: onward(free, stops, taken),
         takes: takes,
         free: free,
+        stops: stops,
     }
 }
 

@@ -19,7 +19,7 @@ use Rattle.rests.specs.Walk.{Walk, here, skip, step, slotAt}
 use Rattle.rests.proofs.Walks.{walk-append, forwards, take-one, path-of, text-of}
 use Rattle.row_paths.proofs.Shapes.{held-within}
 use Rattle.common_next.specs.declared.Front.{Front}
-use Rattle.common_next.specs.Next.{MayCome, LeastOf, some, none, Kept, After, Free}
+use Rattle.common_next.specs.Next.{MayCome, LeastOf, some, none, Kept, After, Ending}
 use Rattle.common_next.specs.Code.{ChosenBy}
 use Rattle.common_texts.specs.Code.{Finishes, EarliestFrom, WithEnds, Meeting, Stands, AtMostLeft, EarliestWritten}
 use Rattle.common_texts.proofs.Part.{rest, laid-text}
@@ -41,7 +41,7 @@ module _ {X : ℕ → Block} where
 
   closed-after : {P c : ℕ} (K : ℕ) → Exactly P (After X K c) → WithEnds X P
   closed-after K x = record {
-    closed = λ p h l. let a = x .so p h in x .mark _ (record { from = a .from; held = a .held; takes = a .takes; ends = walk-append (a .ends) (skip l (here refl)) });
+    closed = λ p h l. let a = x .so p h in x .has _ (record { from = a .from; held = a .held; takes = a .takes; ends = walk-append (a .ends) (skip l (here refl)) });
   }
 
   -- a text from the positions after c is one from those before it, with c in front
@@ -49,7 +49,7 @@ module _ {X : ℕ → Block} where
   put-before x f = let a = x .so (f .from) (f .held) in record { from = a .from; held = a .held; walk = step (a .takes) (walk-append (a .ends) (f .walk)) }
 
   just-after : {U P c : ℕ} {t : List ℕ} (K i : ℕ) → Exactly P (After X K c) → Holds K i → Holds (X i .base) c → Walk X U (i + 1) t → Finishes X U P t
-  just-after K i x h g w = record { from = i + 1; held = x .mark (i + 1) (record { from = i; held = h; takes = g; ends = here refl }); walk = w }
+  just-after K i x h g w = record { from = i + 1; held = x .has (i + 1) (record { from = i; held = h; takes = g; ends = here refl }); walk = w }
 
   wider : {U P K : ℕ} {t : List ℕ} → ((i : ℕ) → Holds K i → Holds P i) → Finishes X U K t → Finishes X U P t
   wider f w = record { from = w .from; held = f (w .from) (w .held); walk = w .walk }
@@ -113,15 +113,15 @@ pub meeting-after : {X Y : ℕ → Block} {U W P Q P′ Q′ kept c : ℕ} → M
 meeting-after {P = P} {Q} {kept = kept} {c} m k x y = record {
   own = m .own + 1;
   other = m .other + 1;
-  held = x .mark _ (record { from = m .own; held = k .live (m .own) (m .other) c (m .has) (m .held) (m .goes); takes = m .goes .first; ends = here refl });
-  held-other = y .mark _ (record { from = m .other; held = m .held; takes = m .goes .second; ends = here refl });
+  held = x .has _ (record { from = m .own; held = k .live (m .own) (m .other) c (m .has) (m .held) (m .goes); takes = m .goes .first; ends = here refl });
+  held-other = y .has _ (record { from = m .other; held = m .held; takes = m .goes .second; ends = here refl });
   path = m .goes .on;
 }
 
 -- where a shape stands after it
 pub stands-after : {x : List ℕ} {c : ℕ} {s : Front} (K : ℕ)
-    → Exactly (setOf (s .takes)) (λ q. Holds (slotAt (shapeOf x) q .base) c) → Exactly (setOf (s .row)) (After (slotAt (shapeOf x)) K c) → Free x (setOf (s .free)) → Stands x c s
-stands-after K t r f = record { closed = closed-after K r; takes = t; free = f }
+    → Exactly (setOf (s .takes)) (λ q. Holds (slotAt (shapeOf x) q .base) c) → Exactly (setOf (s .row)) (After (slotAt (shapeOf x)) K c) → Ending x (setOf (s .free)) (setOf (s .stops)) → Stands x c s
+stands-after K t r f = record { closed = closed-after K r; takes = t; runs = f }
 
 -- one character less may still come
 module _ (x : List ℕ) {P left : ℕ} (b : AtMostLeft x P left) where

@@ -14,42 +14,41 @@ use Rattle.rests.proofs.Walks.{walk-append, walk-to, walk-text, path-of}
 use Rattle.rests.proofs.Laid.{slots, bounded}
 use Rattle.rests.proofs.Fillings.{filling-walk, walk-fits}
 use Rattle.rows.specs.Row.{rowIn}
-use Rattle.rows.specs.Steps.{Leads, Matched}
+use Rattle.rows.specs.Steps.{Leads, Matched, Together}
 use Rattle.row_paths.specs.Laid.{Laid}
 use Rattle.row_paths.proofs.Laid.{laid-zones}
 use Rattle.common_back.specs.Back.{EndRows}
 use Rattle.common_next.specs.declared.Front.{Front}
-use Rattle.common_next.specs.Next.{Free}
 use Rattle.common_next.proofs.Ends.{ended-row, takes-char}
 use Rattle.common_texts.specs.Earliest.{TextShown, NothingShown}
 use Rattle.common_texts.specs.Code.{Finishes, Meeting, Stands, Started, AtMostLeft, EarliestWritten}
 
 -- ---- the start
 
-pub started : {x z e l : List ℕ} → Laid x z e l → {s : Front} {k one two : ℕ} → k ≡ length x / 4 → Exactly one (λ c. c ≡ 0) → Exactly (setOf (s .row)) (Leads (rowIn e) (rowIn z) k one)
-    → Exactly two (λ c. c ≡ 0) → Exactly (setOf (s .takes)) (Matched (λ j. blockAt x j .base) (rowIn l) k two) → Free x (setOf (s .free)) → Started x s
-started {x} d e o r o′ t f = record {
+pub started : {x z e′ l : List ℕ} → Laid x z e′ l → {s : Front} {k one two : ℕ} → k ≡ length x / 4 → Exactly one (λ c. c ≡ 0) → Exactly (setOf (s .row)) (Leads (rowIn e′) (rowIn z) k one)
+    → Exactly two (λ c. c ≡ 0) → Exactly (setOf (s .takes)) (Matched (λ j. blockAt x j .base) (rowIn l) k two) → Together (rowIn z) (rowIn e′) k (setOf (s .free)) (setOf (s .stops)) → Started x s
+started {x} {z} {e′} d {s = s} e o r o′ t f = record {
   row = exactly-as
       (λ q w. subst (λ (p : ℕ). Walk (slotAt (shapeOf x)) q p []) (o .so (w .from) (w .held)) (w .walk))
-      (λ q w. record { from = 0; held = o .mark 0 refl; walk = w })
+      (λ q w. record { from = 0; held = o .has 0 refl; walk = w })
       (ended-row (laid-zones d e) r);
   takes = takes-char d e o′ t;
-  free = f;
+  runs = record { zones = _; ends = _; slots = _; laid = d; all = subst (λ (n : ℕ). Together (rowIn z) (rowIn e′) n (setOf (s .free)) (setOf (s .stops))) e f };
 }
 
 module _ {x : List ℕ} {s : Front} (b : Started x s) where
   pub start-stands : Stands x 0 s
   start-stands = record {
-    closed = record { closed = λ p h l. b .row .mark _ (walk-append (b .row .so p h) (skip l (here refl))) };
+    closed = record { closed = λ p h l. b .row .has _ (walk-append (b .row .so p h) (skip l (here refl))) };
     takes = b .takes;
-    free = b .free;
+    runs = b .runs;
   }
 
   pub start-left : {left : ℕ} → left ≡ total (shapeOf x) → AtMostLeft x (setOf (s .row)) left
   start-left e = record { bound = λ q h. omega arith }
 
   start-held : Holds (setOf (s .row)) 0
-  start-held = b .row .mark 0 (here refl)
+  start-held = b .row .has 0 (here refl)
 
 -- ---- the texts that fit
 
@@ -85,6 +84,6 @@ module _ {x y mines rows : List ℕ} (t : EndRows x y mines rows) {row : ℕ} (e
 
   pub nothing-shown : {out : List ℕ} → (Holds row 0 → ⊥) → NothingShown x y out out
   nothing-shown n = record {
-    nothing = record { none = λ u f g. n (subst (λ (v : ℕ). Holds v 0) (sym e) (t .row 0 (omega arith) .mark 0 (path-of (reads x u f) (reads y u g)))) };
+    nothing = record { none = λ u f g. n (subst (λ (v : ℕ). Holds v 0) (sym e) (t .row 0 (omega arith) .has 0 (path-of (reads x u f) (reads y u g)))) };
     kept = refl;
   }

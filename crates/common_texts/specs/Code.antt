@@ -9,10 +9,9 @@ use Rattle.shapes.specs.Shape.{Block, total}
 use Rattle.shapes.specs.Lent.{shapeOf}
 use Rattle.texts.specs.Order.{AtMost}
 use Rattle.rests.specs.Walk.{Walk, Path, slotAt}
-use Rattle.row_paths.specs.Laid.{Laid}
 use Rattle.common_back.specs.Back.{EndRows}
 use Rattle.common_next.specs.declared.Front.{Front}
-use Rattle.common_next.specs.Next.{Free}
+use Rattle.common_next.specs.Next.{Slotted, Ending}
 
 -- From one of the positions P the text t is read to the end U.
 pub record Finishes (X : ℕ → Block) (U P : ℕ) (t : List ℕ) : Type 0 where
@@ -38,23 +37,23 @@ pub record Meeting (X Y : ℕ → Block) (U W P Q : ℕ) : Type 0 where
   pub held-other : Holds Q other
   pub path : Path X Y U W own other
 
--- Both shapes laid out, and the rows from which both can end.
-pub record BothLaid (x y zones-x ends-x slots-x zones-y ends-y slots-y mines rows : List ℕ) : Type 0 where
-  pub own : Laid x zones-x ends-x slots-x
-  pub other : Laid y zones-y ends-y slots-y
+-- The rows of both shapes' blocks, and those from which both can end.
+pub record BothLaid (x y slots-x slots-y mines rows : List ℕ) : Type 0 where
+  pub own : Slotted x slots-x
+  pub other : Slotted y slots-y
   pub table : EndRows x y mines rows
 
--- Where one shape stands: at positions closed under the ends of runs; `takes` are those that can take the character code, `free` those where a run may end.
+-- Where one shape stands: at positions closed under the ends of runs; `takes` are those that can take the character code, `free` those where a run may end, `stops` where it then is.
 pub record Stands (x : List ℕ) (code : ℕ) (s : Front) : Type 0 where
   pub closed : WithEnds (slotAt (shapeOf x)) (setOf (s .row))
   pub takes : Exactly (setOf (s .takes)) (λ q. Holds (slotAt (shapeOf x) q .base) code)
-  pub free : Free x (setOf (s .free))
+  pub runs : Ending x (setOf (s .free)) (setOf (s .stops))
 
 -- Before the first character: at the positions that the ends of runs lead to from the start, and the character 0 stands for the one before.
 pub record Started (x : List ℕ) (s : Front) : Type 0 where
   pub row : Exactly (setOf (s .row)) (λ q. Walk (slotAt (shapeOf x)) q 0 [])
   pub takes : Exactly (setOf (s .takes)) (λ q. Holds (slotAt (shapeOf x) q .base) 0)
-  pub free : Free x (setOf (s .free))
+  pub runs : Ending x (setOf (s .free)) (setOf (s .stops))
 
 -- At most so many characters are left.
 pub record AtMostLeft (x : List ℕ) (P left : ℕ) : Type 0 where

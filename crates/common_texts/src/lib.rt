@@ -13,6 +13,7 @@ ghost use Rattle.shapes.specs.Lent.{Whole, shapeOf};
 ghost use Rattle.rests.specs.Walk.{slotAt};
 ghost use Rattle.rows.specs.Row.{layoutSize};
 ghost use Rattle.row_paths.specs.Laid.{Laid};
+ghost use Rattle.common_back.specs.Back.{EndRows};
 ghost use Rattle.common_texts.specs.Earliest.{ShowAnswer};
 ghost use Rattle.common_texts.specs.Code.{BothLaid, Stands, AtMostLeft, Meeting, EarliestWritten, Started};
 
@@ -37,11 +38,7 @@ fn may_end(own: Set, other: Set, last: Totals) -> bool
 fn write(
     x: &[u64],
     y: &[u64],
-    zones_x: &[u64],
-    ends_x: &[u64],
     slots_x: &[u64],
-    zones_y: &[u64],
-    ends_y: &[u64],
     slots_y: &[u64],
     mines: &[u64],
     rows: &[u64],
@@ -52,7 +49,7 @@ fn write(
     other: Front,
     out: &mut [u8],
 ) -> usize
-    requires { ⌜ BothLaid (now x) (now y) (now «zones_x») (now «ends_x») (now «slots_x») (now «zones_y») (now «ends_y») (now «slots_y») (now mines) (now rows) ⌝ }
+    requires { ⌜ BothLaid (now x) (now y) (now «slots_x») (now «slots_y») (now mines) (now rows) ⌝ }
     requires { ⌜ (last .own ≡ total (shapeOf (now x))) × (last .other ≡ total (shapeOf (now y))) ⌝ }
     requires { ⌜ Stands (now x) code own × Stands (now y) code other ⌝ }
     requires { ⌜ Meeting (slotAt (shapeOf (now x))) (slotAt (shapeOf (now y))) (total (shapeOf (now x))) (total (shapeOf (now y))) (setOf (own .row)) (setOf (other .row)) ⌝ }
@@ -62,6 +59,7 @@ fn write(
     let row = own.row;
     let takes = own.takes;
     let free = own.free;
+    let stops = own.stops;
     let row_y = other.row;
     if may_end(row, row_y, last) {
         return 0;
@@ -69,18 +67,19 @@ fn write(
     let found = common_next::next(x, y, slots_x, slots_y, mines, rows, row, row_y);
     let c = found.code;
     let row = found.kept;
-    let kept = Front { row, takes, free };
-    let first = common_next::read(x, zones_x, ends_x, slots_x, kept, c == code, c);
-    let second = common_next::read(y, zones_y, ends_y, slots_y, other, c == code, c);
+    let kept = Front {
+        row,
+        takes,
+        free,
+        stops,
+    };
+    let first = common_next::read(x, slots_x, kept, c == code, c);
+    let second = common_next::read(y, slots_y, other, c == code, c);
     out[0] = c as u8;
     let n = write(
         x,
         y,
-        zones_x,
-        ends_x,
         slots_x,
-        zones_y,
-        ends_y,
         slots_y,
         mines,
         rows,
@@ -100,12 +99,14 @@ fn start(shape: &[u64], zones: &[u64], ends: &[u64], slots: &[u64]) -> Front
     ensures { λ r. ⌜ Started (now (shape .entry)) r ⌝ }
 {
     let n = shape.len() / shapes::SIZE;
-    let closed = row_steps::back(zones, ends, n, sets::below(256));
-    let free = closed.quit;
+    let runs = row_steps::all_runs(zones, ends, n);
+    let free = runs.free;
+    let stops = runs.stops;
     Front {
-        row: row_steps::forth(zones, ends, n, sets::single(0)),
+        row: row_steps::close_forth(runs, sets::single(0)),
         takes: row_steps::matching(sets::single(0), shape, slots, n),
         free: free,
+        stops: stops,
     }
 }
 
@@ -124,7 +125,8 @@ fn earliest_laid(
     last: Totals,
     out: &mut [u8],
 ) -> Shown
-    requires { ⌜ BothLaid (now x) (now y) (now «zones_x») (now «ends_x») (now «slots_x») (now «zones_y») (now «ends_y») (now «slots_y») (now mines) (now rows) ⌝ }
+    requires { ⌜ Laid (now x) (now «zones_x») (now «ends_x») (now «slots_x») × Laid (now y) (now «zones_y») (now «ends_y») (now «slots_y») ⌝ }
+    requires { ⌜ EndRows (now x) (now y) (now mines) (now rows) ⌝ }
     requires { ⌜ (last .own ≡ total (shapeOf (now x))) × (last .other ≡ total (shapeOf (now y))) ⌝ }
     requires { ⌜ 250 ≤ length (now out) ⌝ }
     ensures { λ r. ⌜ ShowAnswer (now (x .entry)) (now (y .entry)) (now (out .entry)) (now (out .exit)) r ⌝ }
@@ -137,11 +139,7 @@ fn earliest_laid(
     Shown::Text(write(
         x,
         y,
-        zones_x,
-        ends_x,
         slots_x,
-        zones_y,
-        ends_y,
         slots_y,
         mines,
         rows,

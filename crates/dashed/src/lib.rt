@@ -68,7 +68,7 @@ pub fn narrow_padded(
     ensures { λ r. ⌜ NarrowPadded (now (x .entry)) (now (y .entry)) (now (work .entry)) (now («out_x» .entry)) (now («out_y» .entry))
         (now (work .exit)) (now («out_x» .exit)) (now («out_y» .exit)) r ⌝ }
 {
-    kinds::narrow(0, x, y, work, out_x, out_y)
+    kinds::narrow(rules::PADDED, x, y, work, out_x, out_y)
 }
 
 // The same to the letter, a rule's kind 4: over the pairs of fillings with one and the same text. It is for files of which every byte counts, and it is what the sweep,
@@ -83,7 +83,7 @@ pub fn narrow_exact(
     ensures { λ r. ⌜ NarrowExact (now (x .entry)) (now (y .entry)) (now (work .entry)) (now («out_x» .entry)) (now («out_y» .entry))
         (now (work .exit)) (now («out_x» .exit)) (now («out_y» .exit)) r ⌝ }
 {
-    kinds::narrow(4, x, y, work, out_x, out_y)
+    kinds::narrow(rules::EXACT, x, y, work, out_x, out_y)
 }
 
 // The same over the pairs in which the text of x is at most that of y, blanks counting as any character.
@@ -97,7 +97,7 @@ pub fn narrow_at_most(
     ensures { λ r. ⌜ NarrowAtMost (now (x .entry)) (now (y .entry)) (now (work .entry)) (now («out_x» .entry)) (now («out_y» .entry))
         (now (work .exit)) (now («out_x» .exit)) (now («out_y» .exit)) r ⌝ }
 {
-    kinds::narrow(1, x, y, work, out_x, out_y)
+    kinds::narrow(rules::AT_MOST, x, y, work, out_x, out_y)
 }
 
 // The same over the pairs in which the text of x is before that of y.
@@ -111,7 +111,7 @@ pub fn narrow_before(
     ensures { λ r. ⌜ NarrowBefore (now (x .entry)) (now (y .entry)) (now (work .entry)) (now («out_x» .entry)) (now («out_y» .entry))
         (now (work .exit)) (now («out_x» .exit)) (now («out_y» .exit)) r ⌝ }
 {
-    kinds::narrow(2, x, y, work, out_x, out_y)
+    kinds::narrow(rules::BEFORE, x, y, work, out_x, out_y)
 }
 
 // Exact narrowing of a join, the text of x being that of y followed by that of z: none exactly if no three fillings are so; otherwise each block of the three
@@ -129,7 +129,7 @@ pub fn narrow_join(
     ensures { λ r. ⌜ NarrowJoin (now (x .entry)) (now (y .entry)) (now (z .entry)) (now (work .entry)) (now («out_x» .entry)) (now («out_y» .entry)) (now («out_z» .entry))
         (now (work .exit)) (now («out_x» .exit)) (now («out_y» .exit)) (now («out_z» .exit)) r ⌝ }
 {
-    joins::narrow(x, y, z, work, out_x, out_y, out_z)
+    join_calls::narrow(x, y, z, work, out_x, out_y, out_z)
 }
 
 // The earliest text that fits both x and y, into an output of at least 250 bytes; its length; or that no text fits both. It takes a work buffer of at least

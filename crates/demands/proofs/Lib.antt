@@ -6,7 +6,9 @@ pub mod Exact
 pub mod Joined
 pub mod Refusals
 pub mod Demands
+pub mod Request1
 pub mod Requests
 pub mod Request3
 pub mod Request4
+pub mod Cannot
 pub mod Request5

@@ -60,7 +60,7 @@ text-one xs out t u (inl p) (inr q) = absurd (shape-not p (q .0))
 text-one xs out t u (inr p) (inl q) = absurd (shape-not q (p .0))
 text-one xs out t u (inr p) (inr q) = p .2 ∙ sym (q .2)
 
-text-not : (xs out : List ℕ) (t : Told) → Accepted xs × (250 ≤ length out) → TextRefused xs out t → ⊥
+pub text-not : (xs out : List ℕ) (t : Told) → Accepted xs × (250 ≤ length out) → TextRefused xs out t → ⊥
 text-not xs out t a (inl p) = shape-not p (a .0)
 text-not xs out t a (inr p) = let h = a .1 in let g = p .1 in omega arith
 

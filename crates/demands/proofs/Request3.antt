@@ -1,15 +1,20 @@
 -- Request 3 of document 02 holds: each field by citation. Assumes nothing.
 use mathlib.Core.Path.{_≡_, refl, sym, ap, ap₂, _∙_, subst, subst₂}
-use mathlib.Core.List.{List, _++_}
+use mathlib.Core.List.{List, [], _∷_, _++_, map, append-assoc}
 use mathlib.Core.Logic.{_↔_}
-use Prim.Native.Nat.{ℕ, _+_, _<_}
+use Prim.Native.Nat.{ℕ, _+_, _%_, _≤_, _<_}
 use native.Mathlib.Omega.{arith}
 use lib.ListN.{length, take, length-append}
 use lib.Seq.{take-at, drop-at}
+use Rattle.answers.specs.Told.{Told}
 use Rattle.answers.specs.declared.Narrowed.{Narrowed}
 use Rattle.rules.specs.declared.Rule.{Rule}
+use Rattle.rules.specs.Rule.{ruleCount}
 use Rattle.shapes.specs.Shape.{Block, Fits, total}
-use Rattle.shapes.specs.Lent.{shapeOf, wordsOf}
+use Rattle.shapes.specs.Wrong.{BlockRefused}
+use Rattle.shapes.specs.Wrong.BlockRefused.{crossed, too-large, disagree}
+use Rattle.shapes.specs.Lent.{shapeOf, wordsOf, BlocksRefused}
+use Rattle.shapes.specs.Lent.BlocksRefused.{wrong-block, too-long as blocks-long}
 use Rattle.texts.specs.Kind.{relationOf, joinKind}
 use Rattle.hulls.specs.Hull.{Pairs, None, Hull}
 use Rattle.hulls.specs.Book.{Within}
@@ -22,14 +27,19 @@ use Rattle.joins.proofs.Line.{words-join, line-shape}
 use Rattle.joins.specs.Join.{Triples, JoinNarrows}
 use Rattle.joins.proofs.Refused.{join-refused-not}
 use Rattle.joins.proofs.Determined.{apart}
-use Rattle.books.specs.Counts.{shapeIn}
+use Rattle.books.specs.Counts.{RightCounts, shapeIn}
 use Rattle.books.specs.Rules.{Joinable, Keeps, relates}
-use Rattle.books.specs.Refused.BookRefused.{wrong-rule}
+use Rattle.books.specs.Refused.{RuleRefused, BookRefused}
+use Rattle.books.specs.Refused.BookRefused.{wrong-counts, wrong-text, wrong-rule, short-work}
 use Rattle.books.specs.Refused.RuleRefused.{wrong, too-long}
 use Rattle.books.proofs.Tell.{first-rule}
 use Rattle.books.proofs.Fourth.{third-named, third-not-first, third-not-second, fourth-zero}
+use Rattle.file_numerals.specs.Digits.{decimal}
+use Rattle.file_lines.specs.Book.{Book, textsWord, blocksWord, rulesWord, headLine, twoNumbers, blockLine, ruleLine, linesOf, joined, writing}
 use Rattle.dashed.specs.Promises.{NarrowExact, NarrowJoin}
-use Rattle.demands.specs.Requests.{Request3}
+use Rattle.demands.specs.Requests.{fourNumbers, Request3}
+use Rattle.demands.proofs.Refusals.{run-book-refuses}
+use Rattle.demands.proofs.Request1.{tells}
 use Rattle.demands.proofs.Exact.{written-words}
 use Rattle.demands.proofs.Joined.{Same, pair-none, pair-hull, keeps-triples, keeps-three, joined-shapes}
 
@@ -49,6 +59,50 @@ others-ask t text n = (go, λ r. relates r)
     go : Keeps t text → relationOf (t .kind) (text (t .a)) (text (t .b))
     go (relates r) = r
     go (Keeps.joins e q) = absurd (n e)
+
+-- ---- four numbers
+
+-- a file's last lines are those of its rules
+last-lines : (h g k : List ℕ) (A B R : List (List ℕ)) → h ∷ (A ++ (g ∷ (B ++ (k ∷ R)))) ≡ (h ∷ (A ++ (g ∷ (B ++ (k ∷ []))))) ++ R
+last-lines h g k A B R = simp append-assoc
+
+in-the-file : (b : Book) → (front : List (List ℕ)) × (writing b ≡ joined (front ++ map fourNumbers (b .rules)))
+unfolding ruleLine twoNumbers linesOf writing
+in-the-file b =
+    let texts = headLine textsWord (length (b .counts)) in
+    let blocks = headLine blocksWord (length (b .blocks)) in
+    let rules = headLine rulesWord (length (b .rules)) in (
+      texts ∷ (map decimal (b .counts) ++ (blocks ∷ (map blockLine (b .blocks) ++ (rules ∷ [])))),
+      ap joined (last-lines texts blocks rules (map decimal (b .counts)) (map blockLine (b .blocks)) (map fourNumbers (b .rules))),
+    )
+
+-- no refusal of a block, a total or a rule is 6
+block-six : {n i : ℕ} {b : Block} {t : Told} → BlockRefused n i b t → t .number ≡ 6 → ⊥
+block-six (crossed h e) s = let z : _≡_ {A = ℕ} 2 6 = sym (ap (λ (u : Told). u .number) e) ∙ s in omega arith
+block-six (too-large c h e) s = let z : _≡_ {A = ℕ} 10 6 = sym (ap (λ (u : Told). u .number) e) ∙ s in omega arith
+block-six (disagree c l h e) s = let z : _≡_ {A = ℕ} 11 6 = sym (ap (λ (u : Told). u .number) e) ∙ s in omega arith
+
+blocks-six : {n : ℕ} {S : List Block} {t : Told} → BlocksRefused n S t → t .number ≡ 6 → ⊥
+blocks-six (wrong-block i f) s = block-six (f .refused) s
+blocks-six (blocks-long g h e) s = let z : _≡_ {A = ℕ} 3 6 = sym (ap (λ (u : Told). u .number) e) ∙ s in omega arith
+
+rule-six : {counts : List ℕ} {S : List Block} {i : ℕ} {r : Rule} {t : Told} → RuleRefused counts S i r t → t .number ≡ 6 → ⊥
+rule-six (wrong n e) s = let z : _≡_ {A = ℕ} 7 6 = sym (ap (λ (u : Told). u .number) e) ∙ s in omega arith
+rule-six (too-long r n e) s = let z : _≡_ {A = ℕ} 12 6 = sym (ap (λ (u : Told). u .number) e) ∙ s in omega arith
+
+fours-pass : {counts blocks rules : List ℕ} {w : ℕ} {t : Told} → BookRefused counts blocks rules w t → t .number ≡ 6 → RightCounts counts blocks [] → length rules % 4 ≡ 0
+    → ruleCount rules ≤ 16 → ⊥
+fours-pass (wrong-counts n e) s c whole few = n (record {
+  some-texts = c .some-texts;
+  few-texts = c .few-texts;
+  each = c .each;
+  whole-blocks = c .whole-blocks;
+  whole-rules = whole;
+  few-rules = few;
+})
+fours-pass (wrong-text _ k f) s c whole few = blocks-six (f .refused) s
+fours-pass (wrong-rule _ _ i f) s c whole few = rule-six (f .refused) s
+fours-pass (short-work _ _ _ h e) s c whole few = let z : _≡_ {A = ℕ} 4 6 = sym (ap (λ (u : Told). u .number) e) ∙ s in omega arith
 
 over-long : {counts : List ℕ} {S : List Block} {t : Rule} → t .kind ≡ joinKind → 250 < total (shapeIn counts S (t .b)) + total (shapeIn counts S (t .c)) → Joinable counts S t → ⊥
 over-long e h j = let s = j .short e in omega arith
@@ -129,6 +183,10 @@ pub request3 : Request3
 request3 = record {
   join-asks = join-asks;
   others-ask = others-ask;
+  four-numbers = λ a. let e = a .counted .whole-rules in omega arith;
+  in-the-file = λ n p. let f = in-the-file (p .book) in (p .book, p .written .accepted, (f .0, p .accepted .is ∙ f .1));
+  six-fours = λ counts blocks rules work blocks′ work′ n. tells (run-book-refuses counts blocks rules work blocks′ work′) (λ a. n (a .counted .whole-rules)) (wrong-counts (λ c. n (c .whole-rules)) refl);
+  fours-pass = λ q p. fours-pass (p .0);
   fourth-zero = λ a j l n. fourth-zero (a .right .each j l .right .fourth) n;
   three-texts = λ a j l e. let r = a .right .each j l .right in (
     (r .first, r .second, third-named (r .fourth) e),

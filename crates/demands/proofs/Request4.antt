@@ -8,8 +8,9 @@ use lib.ListN.{length, take, drop}
 use Rattle.answers.specs.declared.Refusal.{Refusal}
 use Rattle.answers.specs.declared.Refusal.the-variants.{Output}
 use Rattle.answers.specs.declared.Written.{Written}
-use Rattle.file_reports.specs.Report.{Verdict, Reported}
+use Rattle.file_reports.specs.Report.{Verdict, reportOf, Reported}
 use Rattle.file_runs.proofs.Determined.{text-report}
+use Rattle.file_runs.proofs.Ends.{file-ends-one}
 use Rattle.file_runs.proofs.Lent as lent
 use Rattle.host_calls.specs.Host.{negated, handed}
 use Rattle.host_calls.proofs.Numbers.{not-count, host-written, host-refused}
@@ -26,7 +27,7 @@ either (Written.Refused q) z e = inr (q, e)
 pub request-4 : Request4
 request-4 = record {
   written = λ n p. whole (host-written _ _ _ _ _ n p .0 .written .report .reported);
-  as-printed = λ n m p r. lent.report-bytes (text-report (host-written _ _ _ _ _ n p .0)) r;
+  as-printed = λ n p v d. let r = text-report (host-written _ _ _ _ _ n p .0) in lent.reported-front (r .reported) ∙ ap reportOf (file-ends-one (r .due) d);
   zeroed = λ n p. host-written _ _ _ _ _ n p .1;
   count-or-refusal = λ z p. either (p .answer) z (p .number);
   not-both = not-count;

@@ -2,7 +2,7 @@
 use mathlib.Core.Path.{_≡_, refl, sym, ap, _∙_, subst, subst₂}
 use mathlib.Core.List.{List, [], _∷_, _++_}
 use mathlib.Core.Logic.{_↔_}
-use Prim.Native.Nat.{ℕ, zero, suc, _+_, _≤_}
+use Prim.Native.Nat.{ℕ, suc, _+_, _≤_}
 use native.Mathlib.Omega.{arith}
 use lib.ListN.{length, take, replicate, length-append}
 use lib.Seq.{take-at, drop-at}
@@ -10,7 +10,7 @@ use Rattle.answers.specs.declared.Narrowed.{Narrowed}
 use Rattle.rules.specs.declared.Rule.{Rule}
 use Rattle.rules.specs.Rule.{ruleWith}
 use Rattle.shapes.specs.Lent.{shapeOf}
-use Rattle.texts.specs.Order.{Before}
+use Rattle.texts.specs.Order.{AtMost, Before}
 use Rattle.texts.specs.Padding.{blank, trimmed, Padded}
 use Rattle.texts.specs.Kind.{relationOf}
 use Rattle.texts.proofs.Padding.{padded-refl, padded-sym, padded-trans, padded-equal, padded-blanks, blanks-empty, trimmed-blanks, trimmed-twice, padded-behind, behind-padded, leading-counts, inner-counts}
@@ -24,6 +24,7 @@ use Rattle.books.specs.Rules.{RightRule, RightFourth, joins, unused, Keeps, rel
 use Rattle.dashed.specs.Promises.{NarrowPadded, NarrowExact}
 use Rattle.demands.specs.Requests.{Request5}
 use Rattle.demands.proofs.Exact.{narrowed-shapes}
+use Rattle.demands.proofs.Cannot.{cannot-no-ground}
 
 -- ---- dropping blanks
 
@@ -48,6 +49,13 @@ before-itself (d ∷ t) u c = Before.same (before-itself t u c)
 
 orders-count : (t : List ℕ) (n : ℕ) → Before t (t ++ replicate (n + 1) blank)
 orders-count t n = subst (λ (k : ℕ). Before t (t ++ replicate k blank)) (let e : suc n ≡ n + 1 = omega arith in e) (before-itself t (replicate n blank) blank)
+
+not-back : (t u : List ℕ) (c : ℕ) → AtMost (t ++ (c ∷ u)) t → ⊥
+not-back (d ∷ t) u c (AtMost.less h) = omega arith
+not-back (d ∷ t) u c (AtMost.same p) = not-back t u c p
+
+orders-count-back : (t : List ℕ) (n : ℕ) → AtMost (t ++ replicate (n + 1) blank) t → ⊥
+orders-count-back t n p = not-back t (replicate n blank) blank (subst (λ (k : ℕ). AtMost (t ++ replicate k blank) t) (let e : n + 1 ≡ suc n = omega arith in e) p)
 
 -- ---- the two calls
 
@@ -111,6 +119,8 @@ request-5 = record {
   leading-counts = leading-counts;
   inner-counts = inner-counts;
   orders-count = orders-count;
+  orders-count-back = orders-count-back;
+  cannot-no-ground = cannot-no-ground;
   none-of-both = none-of-both;
   keeps-more = wider;
   asks-padded = λ t text e. asks t text 0 e (λ (z : _≡_ {A = ℕ} 0 3). omega arith);

@@ -1,36 +1,126 @@
--- The requests of document 02, a field for each sentence, over the promises of the calls. What a request says of refusals stands with demand 1.
+-- The requests of document 02, a field for each sentence, over the promises of the calls. That refusals are due at all, and that there is one, stands with demand 1.
 use mathlib.Core.Path.{_≡_}
-use mathlib.Core.List.{List, [], _∷_, _++_}
+use mathlib.Core.List.{List, [], _∷_, _++_, map}
 use mathlib.Core.Logic.{_⊎_, _↔_}
-use Prim.Native.Nat.{ℕ, _+_, _≤_, _<_}
+use Prim.Native.Nat.{ℕ, _+_, _*_, _%_, _^_, _≤_, _<_}
 use lib.IntN.{ℤ, pos, negℤ}
-use lib.ListN.{length, take, drop, replicate}
-use Rattle.answers.specs.Told.{tell, told}
+use lib.ListN.{length, getD, take, drop, replicate}
+use Rattle.answers.specs.Told.{Told, tell, told}
 use Rattle.answers.specs.declared.Refusal.{Refusal}
+use Rattle.answers.specs.declared.Checked.{Checked}
+use Rattle.answers.specs.declared.Fit.{Fit}
 use Rattle.answers.specs.declared.Narrowed.{Narrowed}
+use Rattle.answers.specs.declared.Ran.{Ran}
 use Rattle.answers.specs.declared.Shown.{Shown}
+use Rattle.answers.specs.declared.Swept.{Swept}
 use Rattle.answers.specs.declared.Written.{Written}
-use Rattle.shapes.specs.Shape.{Fits, total}
-use Rattle.shapes.specs.Lent.{shapeOf, wordsOf}
+use Rattle.shapes.specs.Shape.{Block, Sound, Fits, total, noBlock}
+use Rattle.shapes.specs.Wrong.{Crossed, TooLarge, Disagree}
+use Rattle.shapes.specs.Lent.{shapeOf, wordsOf, RightLength, Accepted}
 use Rattle.texts.specs.Order.{AtMost}
 use Rattle.texts.specs.Padding.{blank, trimmed, Padded, BlanksBehind}
-use Rattle.texts.specs.Kind.{relationOf, joinKind}
+use Rattle.texts.specs.Kind.{relationOf, paddedKind, atMostKind, beforeKind, joinKind, exactKind}
 use Rattle.rules.specs.declared.Rule.{Rule}
 use Rattle.rules.specs.Rule.{ruleAt, ruleCount, ruleWith, numbersOfAll}
 use Rattle.hulls.specs.Book.{Within}
 use Rattle.pairs.specs.Pair.{PairAccepted, Room}
 use Rattle.pairs.specs.Narrow.{Cleared}
 use Rattle.joins.specs.Refused.{JoinAccepted, JoinRoom}
-use Rattle.books.specs.Counts.{RightCounts, shapeIn}
+use Rattle.books.specs.Counts.{RightCounts, shapeIn, SoundText}
 use Rattle.books.specs.Rules.{Names, RightRule, Keeps}
 use Rattle.books.specs.Refused.{SoundTexts, SoundRule, BookRefused, BookAccepted}
 use Rattle.common_calls.specs.Common.{ShowRoom}
-use Rattle.file_lines.specs.Book.{Book}
+use Rattle.file_numerals.specs.Digits.{decimal}
+use Rattle.file_lines.specs.Book.{Book, joined}
 use Rattle.files.specs.Departs.{FileAccepted}
 use Rattle.file_runs.specs.Ends.{FileEnds}
-use Rattle.file_runs.specs.Promise.{Report}
+use Rattle.file_reports.specs.Report.{Verdict, reportOf}
 use Rattle.host_calls.specs.Host.{negated, handed}
-use Rattle.dashed.specs.Promises.{LeastText, NarrowPadded, NarrowExact, NarrowJoin, CommonText, RunFile, RunHost}
+use Rattle.dashed.specs.Promises.{CheckShape, FitsShape, LeastText, GreatestText, Sweep, NarrowPadded, NarrowExact, NarrowAtMost, NarrowBefore, NarrowJoin, CommonText, RunBook, RunFile, RunHost}
+use Rattle.demands.specs.Demands.{NarrowCall}
+
+-- A call tells t: every answer that its promise permits is a refusal that tells t.
+abbrev pub Tells : {Answer : Type 0} → (Refusal → Answer) → (Answer → Type 0) → Told → Type 0
+Tells {Answer} refused Promise t = (r : Answer) → Promise r → (q : Refusal) × (r ≡ refused q) × (told q ≡ t)
+
+-- ---- order 1
+
+-- Block i, from 0, of the shape s is tried: it is one of its blocks, and those before it are sound.
+pub record Tried (s : List Block) (i : ℕ) : Type 0 where
+  pub within : i < length s
+  pub before : (j : ℕ) → j < i → Sound (getD s j noBlock)
+
+-- What a call tells of the shape s, its number n, once the blocks of s are looked at. "Text and place stay the shape's and the block's number", "at the first bad block".
+pub record TellsWhich {Answer : Type 0} (refused : Refusal → Answer) (Promise : Answer → Type 0) (n : ℕ) (s : List Block) (LookedAt : Type 0) : Type 0 where
+  -- "2 now means lower above upper"
+  pub two : LookedAt → (i : ℕ) → Tried s i → Crossed (getD s i noBlock) → Tells refused Promise (tell 2 n (i + 1))
+  -- "10 is upper above 250", tried after 2
+  pub ten : LookedAt → (i : ℕ) → Tried s i → (Crossed (getD s i noBlock) → ⊥) → TooLarge (getD s i noBlock) → Tells refused Promise (tell 10 n (i + 1))
+  -- "11 is a base empty with upper over 0, or filled with upper 0", tried after 10
+  pub eleven : LookedAt → (i : ℕ) → Tried s i → (Crossed (getD s i noBlock) → ⊥) → (TooLarge (getD s i noBlock) → ⊥) → Disagree (getD s i noBlock)
+      → Tells refused Promise (tell 11 n (i + 1))
+
+-- "2 now means lower above upper only", and 10 and 11 likewise: where one of them is told, this is wrong with the block that is named, and the blocks before it are sound.
+pub record TellsOnly {Answer : Type 0} (refused : Refusal → Answer) (Promise : Answer → Type 0) (n : ℕ) (s : List Block) (LookedAt : Type 0) : Type 0 where
+  pub two : (q : Refusal) (p : ℕ) → Promise (refused q) → told q ≡ tell 2 n p → LookedAt × ((i : ℕ) × (p ≡ i + 1) × Tried s i × Crossed (getD s i noBlock))
+  pub ten : (q : Refusal) (p : ℕ) → Promise (refused q) → told q ≡ tell 10 n p
+      → LookedAt × ((i : ℕ) × (p ≡ i + 1) × Tried s i × (Crossed (getD s i noBlock) → ⊥) × TooLarge (getD s i noBlock))
+  pub eleven : (q : Refusal) (p : ℕ) → Promise (refused q) → told q ≡ tell 11 n p
+      → LookedAt × ((i : ℕ) × (p ≡ i + 1) × Tried s i × (Crossed (getD s i noBlock) → ⊥) × (TooLarge (getD s i noBlock) → ⊥) × Disagree (getD s i noBlock))
+
+pub record SaysWhich {Answer : Type 0} (refused : Refusal → Answer) (Promise : Answer → Type 0) (n : ℕ) (s : List Block) (LookedAt : Type 0) : Type 0 where
+  pub tells : TellsWhich refused Promise n s LookedAt
+  pub only : TellsOnly refused Promise n s LookedAt
+
+-- "in 2's old place in the order": the blocks of a shape are looked at once its length is right, before 3, 4 and 5; those of a second one once the first is accepted
+pub record OfPair {Answer : Type 0} (refused : Refusal → Answer) (Promise : Answer → Type 0) (xs ys : List ℕ) : Type 0 where
+  pub first : SaysWhich refused Promise 1 (shapeOf xs) (RightLength xs)
+  pub second : SaysWhich refused Promise 2 (shapeOf ys) (Accepted xs × RightLength ys)
+
+abbrev pub OfNarrowing : NarrowCall → Type 0
+OfNarrowing Call = (xs ys work ox oy work′ ox′ oy′ : List ℕ) → OfPair Narrowed.Refused (Call xs ys work ox oy work′ ox′ oy′) xs ys
+
+-- those of text k of a book once the counts are right and the texts before it sound, before 7, 12 and 4
+pub record TextLookedAt (counts blocks rules : List ℕ) (k : ℕ) : Type 0 where
+  pub counted : RightCounts counts blocks rules
+  pub named : Names counts k
+  pub before : (j : ℕ) → Names counts j → j < k → SoundText counts (shapeOf blocks) j
+
+-- A block of the book b, in whichever text, is tried and wrong.
+pub record SomeBlock (b : Book) (Wrong : Block → Type 0) : Type 0 where
+  pub text : ℕ
+  pub place : ℕ
+  pub looked-at : TextLookedAt (b .counts) (wordsOf (b .blocks)) (numbersOfAll (b .rules)) text
+  pub tried : Tried (shapeIn (b .counts) (shapeOf (wordsOf (b .blocks))) text) place
+  pub wrong : Wrong (getD (shapeIn (b .counts) (shapeOf (wordsOf (b .blocks))) text) place noBlock)
+
+-- Order 1 of each call that takes a shape.
+pub record Request1 : Type 0 where
+  pub check-shape : (xs : List ℕ) → SaysWhich Checked.Refused (CheckShape xs) 1 (shapeOf xs) (RightLength xs)
+  pub fits : (xs t : List ℕ) → SaysWhich Fit.Refused (FitsShape xs t) 1 (shapeOf xs) (RightLength xs)
+  pub least : (xs out out′ : List ℕ) → SaysWhich Written.Refused (LeastText xs out out′) 1 (shapeOf xs) (RightLength xs)
+  pub greatest : (xs out out′ : List ℕ) → SaysWhich Written.Refused (GreatestText xs out out′) 1 (shapeOf xs) (RightLength xs)
+  pub sweep : (xs ys out out′ : List ℕ) → OfPair Swept.Refused (Sweep xs ys out out′) xs ys
+  pub padded : OfNarrowing NarrowPadded
+  pub exact : OfNarrowing NarrowExact
+  pub at-most : OfNarrowing NarrowAtMost
+  pub before : OfNarrowing NarrowBefore
+  pub common-text : (xs ys work out work′ out′ : List ℕ) → OfPair Shown.Refused (CommonText xs ys work out work′ out′) xs ys
+  pub join-pair : (xs ys zs work ox oy oz work′ ox′ oy′ oz′ : List ℕ) → OfPair Narrowed.Refused (NarrowJoin xs ys zs work ox oy oz work′ ox′ oy′ oz′) xs ys
+  pub join-third : (xs ys zs work ox oy oz work′ ox′ oy′ oz′ : List ℕ)
+      → SaysWhich Narrowed.Refused (NarrowJoin xs ys zs work ox oy oz work′ ox′ oy′ oz′) 3 (shapeOf zs) (Accepted xs × Accepted ys × RightLength zs)
+  pub run-book : (counts blocks rules work blocks′ work′ : List ℕ) (k : ℕ)
+      → SaysWhich Ran.Refused (RunBook counts blocks rules work blocks′ work′) k (shapeIn counts (shapeOf blocks) k) (TextLookedAt counts blocks rules k)
+  pub run-file : (file report report′ : List ℕ) (b : Book) → FileAccepted file b → (k : ℕ)
+      → SaysWhich Written.Refused (RunFile file report report′) k (shapeIn (b .counts) (shapeOf (wordsOf (b .blocks))) k)
+      (TextLookedAt (b .counts) (wordsOf (b .blocks)) (numbersOfAll (b .rules)) k)
+  -- (a C host gets the number alone)
+  pub run-host : (book report work report′ work′ : List ℕ) (b : Book) → FileAccepted book b → (k : ℕ)
+      → TellsWhich negated (RunHost book report work report′ work′) k (shapeIn (b .counts) (shapeOf (wordsOf (b .blocks))) k)
+      (TextLookedAt (b .counts) (wordsOf (b .blocks)) (numbersOfAll (b .rules)) k)
+  pub host-two-only : {book report work report′ work′ : List ℕ} {b : Book} → FileAccepted book b → RunHost book report work report′ work′ (negℤ (pos 2)) → SomeBlock b Crossed
+  pub host-ten-only : {book report work report′ work′ : List ℕ} {b : Book} → FileAccepted book b → RunHost book report work report′ work′ (negℤ (pos 10)) → SomeBlock b TooLarge
+  pub host-eleven-only : {book report work report′ work′ : List ℕ} {b : Book} → FileAccepted book b → RunHost book report work report′ work′ (negℤ (pos 11)) → SomeBlock b Disagree
 
 -- ---- order 2
 
@@ -71,10 +161,24 @@ pub record Request2 : Type 0 where
 
 -- ---- order 3
 
+-- A rule's line in a file: its four numbers, with single blanks.
+abbrev pub fourNumbers : Rule → List ℕ
+fourNumbers t = decimal (t .kind) ++ 32 ∷ (decimal (t .a) ++ 32 ∷ (decimal (t .b) ++ 32 ∷ decimal (t .c)))
+
 pub record Request3 : Type 0 where
   -- "Add a rule saying that text a is text b followed by text c": what a join asks of texts; the other kinds ask what they asked
   pub join-asks : (t : Rule) (text : ℕ → List ℕ) → t .kind ≡ joinKind → Keeps t text ↔ (text (t .a) ≡ text (t .b) ++ text (t .c))
   pub others-ask : (t : Rule) (text : ℕ → List ℕ) → (t .kind ≡ joinKind → ⊥) → Keeps t text ↔ relationOf (t .kind) (text (t .a)) (text (t .b))
+  -- "Rules become four numbers": those of an accepted book are whole fours
+  pub four-numbers : {counts blocks rules : List ℕ} {w : ℕ} → BookAccepted counts blocks rules w → length rules ≡ ruleCount rules * 4
+  -- "in the file too": a file that is not refused ends with a line of four numbers for each rule of the book that is run
+  pub in-the-file : {file report report′ : List ℕ} (n : ℕ) → RunFile file report report′ (Written.Text n)
+      → (b : Book) × BookAccepted (b .counts) (wordsOf (b .blocks)) (numbersOfAll (b .rules)) 63001
+      × ((front : List (List ℕ)) × (file ≡ joined (front ++ map fourNumbers (b .rules))))
+  -- "6 reads fours of numbers where it read triples": rules that are no whole fours are refused by 6, and whole fours, up to 16, are no ground for it
+  pub six-fours : (counts blocks rules work blocks′ work′ : List ℕ) → (length rules % 4 ≡ 0 → ⊥) → Tells Ran.Refused (RunBook counts blocks rules work blocks′ work′) (tell 6 0 0)
+  pub fours-pass : {counts blocks rules work blocks′ work′ : List ℕ} (q : Refusal) → RunBook counts blocks rules work blocks′ work′ (Ran.Refused q) → told q .number ≡ 6
+      → RightCounts counts blocks [] → length rules % 4 ≡ 0 → ruleCount rules ≤ 16 → ⊥
   -- "the fourth is 0 except in kind 3, where it is c", and "a, b, c are .. three different texts"
   pub fourth-zero : {counts blocks rules : List ℕ} {w : ℕ} → BookAccepted counts blocks rules w → (j : ℕ) → j < ruleCount rules → (ruleAt rules j .kind ≡ joinKind → ⊥)
       → ruleAt rules j .c ≡ 0
@@ -108,14 +212,15 @@ pub record Request3 : Type 0 where
 
 -- ---- order 4
 
--- Lent to the call: book, report and work. To `run_file` the same book and report are lent; `narrow` has a buffer of its own, out.
+-- Lent to the call: book, report and work. To `run_file` the same book and report are lent.
 pub record Request4 : Type 0 where
   -- "gets the number of bytes written": they stand at the start of the report buffer, one at least; "leaves the rest of its buffer as found"
   pub written : {book report work report′ work′ : List ℕ} (n : ℕ) → RunHost book report work report′ work′ (pos n)
       → (0 < n) × (n ≤ 16384) × (length (take n report′) ≡ n) × (drop n report′ ≡ drop n report)
-  -- "The bytes are those the program `narrow` prints for the same accepted book": it prints the first m bytes of a report of how the file ends (`narrow::report_of`)
-  pub as-printed : {book report work report′ work′ out out′ : List ℕ} (n m : ℕ) → RunHost book report work report′ work′ (pos n) → Report (FileEnds book) out out′ m
-      → (n ≡ m) × (take n report′ ≡ take m out′)
+  -- "The bytes are those the program `narrow` prints for the same accepted book": those of the report of how the file ends. That `narrow` hands these, and no others, to its
+  -- last step is what this step asks of it (`narrow::print`); that the step is taken, and writes them to the standard output, is seen in the code and by `tests/built`
+  pub as-printed : {book report work report′ work′ : List ℕ} (n : ℕ) → RunHost book report work report′ work′ (pos n) → (v : Verdict) → FileEnds book v
+      → take n report′ ≡ reportOf v
   -- work is zeroed as elsewhere
   pub zeroed : {book report work report′ work′ : List ℕ} (n : ℕ) → RunHost book report work report′ work′ (pos n) → Cleared work work′
   -- "or the refusal's number made negative with the report buffer untouched": there is no third, and no number is both
@@ -138,29 +243,41 @@ pub record Request4 : Type 0 where
 
 -- ---- order 5
 
+-- As lent: a1..1 and a blank, and a1..1 alone.
+abbrev pub paddedField : List ℕ
+paddedField = 0 ∷ (2 ^ 33 ∷ (1 ∷ (1 ∷ (2 ^ 32 ∷ (0 ∷ (1 ∷ (1 ∷ [])))))))
+
+abbrev pub bareField : List ℕ
+bareField = 0 ∷ (2 ^ 33 ∷ (1 ∷ (1 ∷ [])))
+
 -- Lent to both calls: the same shapes xs and ys; to the one on padded texts work, ox and oy, to the exact one work₁, ox₁ and oy₁.
 pub record Request5 : Type 0 where
   -- "Kind 0 shall mean equal once trailing blanks are dropped from both": a text is its trimmed text with blanks behind, and that has no blank at its end
-  pub kind-0 : (t u : List ℕ) → relationOf 0 t u ↔ (trimmed t ≡ trimmed u)
+  pub kind-0 : (t u : List ℕ) → relationOf paddedKind t u ↔ (trimmed t ≡ trimmed u)
   pub dropped : (t : List ℕ) → BlanksBehind t (trimmed t)
   pub none-left : (t u : List ℕ) → trimmed t ≡ u ++ (blank ∷ []) → ⊥
   -- "a text of blanks equals the empty one"
-  pub blanks-empty : (n : ℕ) → relationOf 0 (replicate n blank) []
+  pub blanks-empty : (n : ℕ) → relationOf paddedKind (replicate n blank) []
   -- "Kind 4 is the old, exact equality."
-  pub kind-4 : (t u : List ℕ) → relationOf 4 t u ↔ (t ≡ u)
+  pub kind-4 : (t u : List ℕ) → relationOf exactKind t u ↔ (t ≡ u)
   -- kind 0 is an equality: of a text and itself, either way round, and passed on
-  pub reflexive : (t : List ℕ) → relationOf 0 t t
-  pub symmetric : (t u : List ℕ) → relationOf 0 t u → relationOf 0 u t
-  pub transitive : (t u v : List ℕ) → relationOf 0 t u → relationOf 0 u v → relationOf 0 t v
+  pub reflexive : (t : List ℕ) → relationOf paddedKind t t
+  pub symmetric : (t u : List ℕ) → relationOf paddedKind t u → relationOf paddedKind u t
+  pub transitive : (t u v : List ℕ) → relationOf paddedKind t u → relationOf paddedKind u v → relationOf paddedKind t v
   -- equal texts are, and so are a text and it with blanks behind; two are exactly if one is the other with blanks behind
-  pub equal-texts : (t u : List ℕ) → relationOf 4 t u → relationOf 0 t u
-  pub blanks-behind : (t : List ℕ) (n : ℕ) → relationOf 0 (t ++ replicate n blank) t
-  pub one-with-blanks : (t u : List ℕ) → relationOf 0 t u ↔ (BlanksBehind t u ⊎ BlanksBehind u t)
+  pub equal-texts : (t u : List ℕ) → relationOf exactKind t u → relationOf paddedKind t u
+  pub blanks-behind : (t : List ℕ) (n : ℕ) → relationOf paddedKind (t ++ replicate n blank) t
+  pub one-with-blanks : (t u : List ℕ) → relationOf paddedKind t u ↔ (BlanksBehind t u ⊎ BlanksBehind u t)
   -- blanks in front of a text, and within it, count
-  pub leading-counts : relationOf 0 (blank ∷ (97 ∷ [])) (97 ∷ []) → ⊥
-  pub inner-counts : relationOf 0 (97 ∷ (blank ∷ (98 ∷ []))) (97 ∷ (98 ∷ [])) → ⊥
-  -- "The orders don't drop blanks.": a text comes before itself with blanks behind
-  pub orders-count : (t : List ℕ) (n : ℕ) → relationOf 2 t (t ++ replicate (n + 1) blank)
+  pub leading-counts : relationOf paddedKind (blank ∷ (97 ∷ [])) (97 ∷ []) → ⊥
+  pub inner-counts : relationOf paddedKind (97 ∷ (blank ∷ (98 ∷ []))) (97 ∷ (98 ∷ [])) → ⊥
+  -- "The orders don't drop blanks.": a text comes before itself with blanks behind, and with blanks behind it is not at most itself
+  pub orders-count : (t : List ℕ) (n : ℕ) → relationOf beforeKind t (t ++ replicate (n + 1) blank)
+  pub orders-count-back : (t : List ℕ) (n : ℕ) → relationOf atMostKind (t ++ replicate (n + 1) blank) t → ⊥
+  -- "a 'cannot' is no ground for a kind 0 none": of these two shapes the sweep says cannot and `narrow_padded` narrows, whatever memory is lent, as long as there is room
+  pub cannot-no-ground : (out out′ work ox oy work′ ox′ oy′ : List ℕ) (r : Swept) (s : Narrowed) → Sweep paddedField bareField out out′ r
+      → NarrowPadded paddedField bareField work ox oy work′ ox′ oy′ s → 4 ≤ length out → Room paddedField bareField (length work) (length ox) (length oy)
+      → (r ≡ Swept.Cannot 4) × (s ≡ Narrowed.Narrow)
   -- "Demand 2 speaks of both, each with its own pairs" (`padded`, `exact`): those of kind 4 are among those of kind 0, so that a none of kind 0 is one of kind 4, and kind 0
   -- keeps at least what kind 4 keeps
   pub none-of-both : {xs ys work ox oy work′ ox′ oy′ work₁ ox₁ oy₁ work₁′ ox₁′ oy₁′ : List ℕ} → NarrowPadded xs ys work ox oy work′ ox′ oy′ Narrowed.None
@@ -169,8 +286,8 @@ pub record Request5 : Type 0 where
       → NarrowExact xs ys work₁ ox₁ oy₁ work₁′ ox₁′ oy₁′ Narrowed.Narrow
       → Within (shapeOf (take (length xs) ox₁′)) (shapeOf (take (length xs) ox′)) × Within (shapeOf (take (length ys) oy₁′)) (shapeOf (take (length ys) oy′))
   -- "Demand 3 holds with both kinds in a book": what such rules ask of texts
-  pub asks-padded : (t : Rule) (text : ℕ → List ℕ) → t .kind ≡ 0 → Keeps t text ↔ Padded (text (t .a)) (text (t .b))
-  pub asks-exact : (t : Rule) (text : ℕ → List ℕ) → t .kind ≡ 4 → Keeps t text ↔ (text (t .a) ≡ text (t .b))
+  pub asks-padded : (t : Rule) (text : ℕ → List ℕ) → t .kind ≡ paddedKind → Keeps t text ↔ Padded (text (t .a)) (text (t .b))
+  pub asks-exact : (t : Rule) (text : ℕ → List ℕ) → t .kind ≡ exactKind → Keeps t text ↔ (text (t .a) ≡ text (t .b))
   -- "Refusals: none new; kind 4 joins those that 7 lets pass": a rule of kind 4 is right exactly if it were with kind 0, and none of a later kind is
   pub four-right : (counts : List ℕ) (a b c : ℕ) → RightRule counts (ruleWith 4 a b c) ↔ RightRule counts (ruleWith 0 a b c)
   pub five-wrong : (counts : List ℕ) (t : Rule) → 4 < t .kind → RightRule counts t → ⊥

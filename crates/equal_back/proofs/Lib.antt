@@ -1,3 +1,4 @@
 -- The laws of equality's second pass.
 pub mod Rows
 pub mod Pass
+pub mod Words

@@ -12,7 +12,7 @@ use Rattle.shapes.specs.Shape.{Block, noBlock, total, blockCount}
 use Rattle.shapes.specs.Lent.{shapeOf, blockAt}
 use Rattle.rows.specs.Steps.{Matched}
 use Rattle.pads.specs.Pad.{PadPath, paddedAt, Ending}
-use Rattle.rows.specs.Row.{rowIn, tableSize}
+use Rattle.rows.specs.Row.{rowIn, rowCount}
 use Rattle.row_paths.specs.Rows as rows
 use Rattle.row_paths.specs.Rows.{Zones, Shares, BlockIn, Quits, Takes, From, Seen, Gives}
 use Rattle.equal_back.specs.declared.Gathered.{Gathered}
@@ -68,7 +68,7 @@ pub record Wide (x y zones ends slots mines rows own others : List ℕ) : Type 0
   pub ends-long : length y ≤ length ends
   pub slots-long : length y ≤ length slots
   pub mines-long : length x ≤ length mines
-  pub rows-long : length rows ≡ tableSize
+  pub rows-long : total (shapeOf x) < rowCount rows
   pub own-long : length x ≤ length own
   pub others-long : length y ≤ length others
 

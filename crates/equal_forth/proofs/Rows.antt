@@ -3,22 +3,24 @@ use mathlib.Core.Path.{_≡_, refl, sym, _∙_, subst}
 use mathlib.Core.Bool.{true, false}
 use mathlib.Core.List.{List}
 use mathlib.Core.Logic.{⊎-elim}
-use Prim.Native.Nat.{ℕ, _+_, _-_, _≤_, _<_}
+use Prim.Native.Nat.{ℕ, _+_, _-_, _*_, _%_, _^_, _≤_, _<_}
+use native.Mathlib.Nat.{mod-eq-of-lt, lt-of-lt-of-le}
 use native.Mathlib.Omega.{arith}
 use borrow.Author.Tests.{lt-leb, le-leb}
-use lib.Bits.{bitOr}
-use lib.Dec.{leb}
+use lib.Bits.{bitAnd, bitOr, and-le-r}
+use lib.Dec.{leb, lit≤}
+use lib.Pow.{pow-mono}
 use Rattle.bases.proofs.Plain.{lt-or-le}
 use Rattle.sets.specs.Set.{Exactly}
 use Rattle.sets.proofs.Exact.{exactly-at}
 use Rattle.shapes.specs.Shape.{Block}
 use Rattle.pads.specs.Pad.{PadPath}
 use Rattle.rows.specs.Row.{rowIn, PutRow}
-use Rattle.rows.specs.Steps.{Leads}
+use Rattle.rows.specs.Steps.{Leads, Together}
 use Rattle.row_paths.specs.Rows.{Zones, Shares, Onwards, BlockIn, Entered}
 use Rattle.row_paths.proofs.Reached.{reached-row}
 use Rattle.row_paths.proofs.Forth.{slot-upper, enter-within, enter-next, comes-none, between-none, comes-more, between-more, between-same}
-use Rattle.equal_forth.specs.Forth.{RowsTo, BlockRows, RowsKept}
+use Rattle.equal_forth.specs.Forth.{RowsTo, BlockRows, RowsKept, Follows}
 
 -- ---- one block
 
@@ -58,3 +60,28 @@ before-none w = record { long = refl; kept = λ i l. refl }
 
 pub before-more : {p q s : ℕ} {w w₁ w₂ : List ℕ} → p ≤ q → RowsKept p w w₁ → PutRow w₁ q s w₂ → RowsKept p w w₂
 before-more l f u = record { long = u .long ∙ f .long; kept = λ i h. u .kept i (λ z. omega arith) ∙ f .kept i h }
+
+-- ---- in one word
+
+-- one up loses nothing
+pub up-word : (row mine : ℕ) → mine < 9223372036854775808 → (bitAnd row mine * 2 ^ 1) % 2 ^ 64 ≡ bitAnd row mine * 2 % 2 ^ 256
+up-word row mine l =
+    let m = and-le-r row mine in
+    let h : bitAnd row mine * 2 < 2 ^ 64 = omega arith in
+    mod-eq-of-lt h ∙ sym (mod-eq-of-lt (lt-of-lt-of-le h (pow-mono {i = 64} {j = 256} (lit≤ tt))))
+
+pub put-as : {w w′ : List ℕ} {j s t : ℕ} → s ≡ t → PutRow w j s w′ → PutRow w j t w′
+put-as {w} {w′} {j} e u = subst (λ (z : ℕ). PutRow w j z w′) e u
+
+pub together-as : {Z E : ℕ → ℕ} {k free free′ stops stops′ : ℕ} → free ≡ free′ → stops ≡ stops′ → Together Z E k free stops → Together Z E k free′ stops′
+together-as {Z} {E} {k} {free} {free′} {stops} {stops′} e d t = subst (λ (x : ℕ). Together Z E k x stops′) e (subst (λ (x : ℕ). Together Z E k free x) d t)
+
+pub shares-as : {Y : ℕ → Block} {base mine mine′ waits waits′ : ℕ} → mine′ ≡ mine → waits′ ≡ waits → Shares Y base mine′ waits′ → Shares Y base mine waits
+shares-as {Y} {base} {mine} {mine′} {waits} {waits′} m w h = subst (λ (v : ℕ). Shares Y base v waits) m (subst (λ (v : ℕ). Shares Y base mine′ v) w h)
+
+pub follows-as : {Z E : ℕ → ℕ} {k p mine mine′ waits waits′ s s′ r r′ : ℕ} {b : Block} {rows : List ℕ} → mine′ ≡ mine → waits′ ≡ waits → s′ ≡ s → r′ ≡ r
+    → Follows Z E k mine waits p b s (λ X Y. BlockRows X Y p b rows r) → Follows Z E k mine′ waits′ p b s′ (λ X Y. BlockRows X Y p b rows r′)
+follows-as {p = p} {b = b} {rows = rows} m w s r f = record {
+  holds = λ X Y z i h x.
+      subst (λ (v : ℕ). BlockRows X Y p b rows v) (sym r) (f .holds X Y z i (shares-as m w h) (subst (λ (v : ℕ). Exactly v (Entered X Y p)) s x));
+}

@@ -4,12 +4,14 @@ use mathlib.Core.List.{List}
 use Prim.Native.Nat.{ℕ, _+_, _≤_, _<_}
 use lib.ListN.{length, take}
 use Rattle.bases.specs.Base.{Meets}
-use Rattle.sets.specs.Set.{Exactly}
+use Rattle.sets.specs.declared.Set.{Set}
+use Rattle.sets.specs.Set.{setOf, Exactly}
 use Rattle.shapes.specs.Shape.{Block, total, blockCount}
 use Rattle.shapes.specs.Lent.{shapeOf, blockAt}
 use Rattle.rests.specs.Walk.{slotAt}
 use Rattle.pads.specs.Pad.{PadPath, paddedAt}
 use Rattle.rows.specs.Row.{rowIn}
+use Rattle.row_steps.specs.declared.Runs.{Runs}
 use Rattle.row_paths.specs.Rows.{Zones, Shares, BlockIn, Entered, Comes, Stops}
 
 -- The rows of the first o positions of the block b from p on, and what is entered after them.
@@ -44,3 +46,11 @@ pub record Pass (pad : ℕ) (x y mines rows : List ℕ) (last : ℕ) : Type 0 wh
   pub mine : (h : ℕ) → h < blockCount x → Exactly (rowIn mines h) (λ q. Meets (blockAt x h .base) (slotAt (shapeOf y) q .base))
   pub row : (h : ℕ) → h ≤ total (shapeOf x) → Exactly (rowIn rows h) (λ j. PadPath (paddedAt pad (shapeOf x)) (paddedAt pad (shapeOf y)) h j 0 0)
   pub last-is : Exactly last (λ j. PadPath (paddedAt pad (shapeOf x)) (paddedAt pad (shapeOf y)) (total (shapeOf x)) j 0 0)
+
+-- All these are sets of one word.
+pub record InWords (runs : Runs) (mine waits s : Set) : Type 0 where
+  pub free-is : setOf (runs .free) ≡ runs .free .a
+  pub stops-is : setOf (runs .stops) ≡ runs .stops .a
+  pub mine-is : setOf mine ≡ mine .a
+  pub waits-is : setOf waits ≡ waits .a
+  pub row-is : setOf s ≡ s .a

@@ -21,7 +21,7 @@ use Rattle.pads.proofs.But.{but-nothing, nothing-but}
 use Rattle.pads.proofs.Cut.{Place}
 use Rattle.pads.proofs.Paths.{path-pad, pad-path, slots-nothing, slot-roomy}
 use Rattle.pads.proofs.Tight.{place, equal-none, equal-hull, some-first}
-use Rattle.equal_reckoning.specs.Equal.{and, at, listed, lastRows, froms, mark, marks, tableOf, cellOf, blockTold, blocksOf, outcome, fromTable, equalHull}
+use Rattle.equal_reckoning.specs.Equal.{and, at, listed, lastRows, froms, sign, signs, tableOf, cellOf, blockTold, blocksOf, outcome, fromTable, equalHull}
 use Rattle.equal_reckoning.proofs.Tests.{tells-and, tells-as, tells-so, tells-ltb, listed-at}
 use Rattle.equal_reckoning.proofs.Finish.{RowsFrom, last-rows}
 use Rattle.equal_reckoning.proofs.Reach.{RowsTo, first-rows}
@@ -29,26 +29,26 @@ use Rattle.equal_reckoning.proofs.Gather.{Told, turn-told, block-says, 
 
 -- ---- the table
 
-cell-mark : (U W : ℕ) (b f : List (List Bool)) (i j : ℕ) → i ≤ U → j ≤ W → cellOf (marks U W b f) i j ≡ mark (at (getD b i []) j) (at (getD f (U - i) []) (W - j))
-unfolding cellOf marks
-cell-mark U W b f i j h g =
-    ap (λ (l : List ℕ). getD l j 0) (listed-at (λ i. listed (λ j. mark (at (getD b i []) j) (at (getD f (U - i) []) (W - j))) 0 (suc W)) [] 0 (suc U) i (omega arith))
-    ∙ listed-at (λ j. mark (at (getD b (0 + i) []) j) (at (getD f (U - (0 + i)) []) (W - j))) 0 0 (suc W) j (omega arith)
-    ∙ ap (λ (k : ℕ). mark (at (getD b k []) (0 + j)) (at (getD f (U - k) []) (W - (0 + j)))) (let e : 0 + i ≡ i = omega arith in e)
-    ∙ ap (λ (k : ℕ). mark (at (getD b i []) k) (at (getD f (U - i) []) (W - k))) (let e : 0 + j ≡ j = omega arith in e)
+cell-sign : (U W : ℕ) (b f : List (List Bool)) (i j : ℕ) → i ≤ U → j ≤ W → cellOf (signs U W b f) i j ≡ sign (at (getD b i []) j) (at (getD f (U - i) []) (W - j))
+unfolding cellOf signs
+cell-sign U W b f i j h g =
+    ap (λ (l : List ℕ). getD l j 0) (listed-at (λ i. listed (λ j. sign (at (getD b i []) j) (at (getD f (U - i) []) (W - j))) 0 (suc W)) [] 0 (suc U) i (omega arith))
+    ∙ listed-at (λ j. sign (at (getD b (0 + i) []) j) (at (getD f (U - (0 + i)) []) (W - j))) 0 0 (suc W) j (omega arith)
+    ∙ ap (λ (k : ℕ). sign (at (getD b k []) (0 + j)) (at (getD f (U - k) []) (W - (0 + j)))) (let e : 0 + i ≡ i = omega arith in e)
+    ∙ ap (λ (k : ℕ). sign (at (getD b i []) k) (at (getD f (U - i) []) (W - k))) (let e : 0 + j ≡ j = omega arith in e)
 
--- what a mark tells of the two passes
-mark-live : (b f : Bool) → ltb 0 (mark b f) ≡ b
-unfolding mark
-mark-live true true = refl
-mark-live true false = refl
-mark-live false f = refl
+-- what a sign tells of the two passes
+sign-live : (b f : Bool) → ltb 0 (sign b f) ≡ b
+unfolding sign
+sign-live true true = refl
+sign-live true false = refl
+sign-live false f = refl
 
-mark-both : (b f : Bool) → eqb (mark b f) 2 ≡ and b f
-unfolding mark and
-mark-both true true = refl
-mark-both true false = refl
-mark-both false f = refl
+sign-both : (b f : Bool) → eqb (sign b f) 2 ≡ and b f
+unfolding sign and
+sign-both true true = refl
+sign-both true false = refl
+sign-both false f = refl
 
 module _ {X Y : ℕ → Block} {U W : ℕ} {b f : List (List Bool)} (rb : RowsFrom X Y U W 0 b) (rf : RowsTo X Y W (suc U) f) where
   finishing : (i j : ℕ) → i ≤ U → j ≤ W → Tells (at (getD b i []) j) (Path X Y U W i j)
@@ -57,15 +57,15 @@ module _ {X Y : ℕ → Block} {U W : ℕ} {b f : List (List Bool)} (rb : RowsFr
   reaching : (i j : ℕ) → i ≤ U → j ≤ W → Tells (at (getD f (U - i) []) (W - j)) (Path X Y i j 0 0)
   reaching i j h g = subst (λ (z : ℕ). Tells (at (getD f z []) (W - j)) (Path X Y i j 0 0)) (let e : suc U - 1 - i ≡ U - i = omega arith in e) (rf .says i j (omega arith) g)
 
-  told-marks : Told X Y U W (cellOf (marks U W b f))
-  told-marks = record {
-    live = λ i j h g. tells-as (ap (λ (v : ℕ). ltb 0 v) (cell-mark U W b f i j h g) ∙ mark-live _ _) (finishing i j h g);
-    marked = λ i j h g. tells-as (ap (λ (v : ℕ). eqb v 2) (cell-mark U W b f i j h g) ∙ mark-both _ _) (tells-and _ (finishing i j h g) (λ z. reaching i j h g));
+  told-signs : Told X Y U W (cellOf (signs U W b f))
+  told-signs = record {
+    live = λ i j h g. tells-as (ap (λ (v : ℕ). ltb 0 v) (cell-sign U W b f i j h g) ∙ sign-live _ _) (finishing i j h g);
+    marked = λ i j h g. tells-as (ap (λ (v : ℕ). eqb v 2) (cell-sign U W b f i j h g) ∙ sign-both _ _) (tells-and _ (finishing i j h g) (λ z. reaching i j h g));
   }
 
 pub told-table : {X Y : ℕ → Block} {U W : ℕ} → Bounded X U → Bounded Y W → Told X Y U W (cellOf (tableOf X Y U W))
 unfolding tableOf
-told-table {X} {Y} {U} {W} x y = told-marks
+told-table {X} {Y} {U} {W} x y = told-signs
     (subst (λ (z : ℕ). RowsFrom X Y U W z (lastRows X Y U W (suc U))) (let e : U + 1 - suc U ≡ 0 = omega arith in e) (last-rows x y (suc U) (omega arith)))
     (first-rows x y (listed (λ j. froms Y j j) 0 (suc W))
     (λ j h. listed-at (λ j. froms Y j j) [] 0 (suc W) j (omega arith) ∙ ap (λ (k : ℕ). froms Y k k) (let e : 0 + j ≡ j = omega arith in e)) (suc U))

@@ -59,14 +59,14 @@ module _ (f : ℕ → Bool) (P : ℕ → Type 0) {n w : ℕ} (says : (k : ℕ) �
 more-exactly : (P : ℕ → ℕ → Type 0) (n : ℕ) {a r : ℕ} → Exactly r (λ c. Holds a c ⊎ P n c) → Exactly a (λ c. Under (λ j. P j c) n) → Exactly r (λ c. Under (λ j. P j c) (suc n))
 more-exactly P n x y = exactly-as
     (λ c u. under-to (λ j. P j c) (⊎-elim (λ h. inr (y .so c h)) (λ h. inl h) u))
-    (λ c u. ⊎-elim (λ h. inr h) (λ h. inl (y .mark c h)) (under-of (λ j. P j c) u))
+    (λ c u. ⊎-elim (λ h. inr h) (λ h. inl (y .has c h)) (under-of (λ j. P j c) u))
     x
 
 -- a, and b where v
 add-exactly : (v : Bool) (a b : ℕ) → Exactly (add v a b) (λ c. Holds a c ⊎ ((v ≡ true) × Holds b c))
 unfolding add
 add-exactly true a b = exactly-as (λ c. ⊎-elim (λ h. inl h) (λ h. inr (refl, h))) (λ c. ⊎-elim (λ h. inl h) (λ h. inr (h .1))) (either-exactly a b refl)
-add-exactly false a b = record { so = λ c h. inl h; mark = λ c. ⊎-elim (λ h. h) (λ h. absurd (false≢true (h .0))) }
+add-exactly false a b = record { so = λ c h. inl h; has = λ c. ⊎-elim (λ h. h) (λ h. absurd (false≢true (h .0))) }
 
 module _ (T : ℕ → ℕ → ℕ) (Y : ℕ → Block) where
   -- the other shape can take c at j where this is at i
@@ -82,7 +82,7 @@ module _ (T : ℕ → ℕ → ℕ) (Y : ℕ → Block) where
   unfolding othersWithin
   within-say m p zero = none-exactly refl (λ c x. let l = x .1 in omega arith)
   within-say m p (suc k) = let o = others-say (p + k) m in more-exactly (λ i c. Under (λ j. Shown (p + i) j c) m) k
-      (exactly-as (λ c. ⊎-elim (λ h. inl h) (λ h. inr (o .so c h))) (λ c. ⊎-elim (λ h. inl h) (λ h. inr (o .mark c h))) (either-exactly _ _ refl))
+      (exactly-as (λ c. ⊎-elim (λ h. inl h) (λ h. inr (o .so c h))) (λ c. ⊎-elim (λ h. inl h) (λ h. inr (o .has c h))) (either-exactly _ _ refl))
       (within-say m p k)
 
 -- ---- one block
@@ -140,7 +140,7 @@ module _ {X Y : ℕ → Block} {U W p : ℕ} {b : Block} {T : ℕ → ℕ → �
           let bound = taken-below c (s .reached) (s .others) in
           let rest = on (s .other) c (s .others) (s .on) in
           let q = tells-so (shows (s .room) bound) ((by-both (s .room) (record { shared = c; first = s .own; second = s .others }) rest, to-path (s .reached)), rest) in
-          (s .own, within-say T Y W p (b .upper) .mark c (s .before, s .room, (s .other, bound, (q, s .others))))
+          (s .own, within-say T Y W p (b .upper) .has c (s .before, s .room, (s .other, bound, (q, s .others))))
 
   length-says : (n : ℕ) → n ≤ b .upper → Tells (hasLength T Y W p b n) (Ends X Y U W p b n)
   unfolding hasLength
@@ -170,7 +170,7 @@ module _ {X Y : ℕ → Block} {U W p : ℕ} {b : Block} {T : ℕ → ℕ → �
   block-says some =
       let s = first-says (hasLength T Y W p b) (Ends X Y U W p b) length-says short some (b .upper) 0 (omega arith) (λ k e. omega arith) in
       let l = last-says (hasLength T Y W p b) (Ends X Y U W p b) length-says short some (b .upper) (omega arith) short in
-      record { held = passes-say .so; all-held = passes-say .mark; shortest = s .0; not-shorter = s .1; longest = l .0; not-longer = l .1 }
+      record { held = passes-say .so; all-held = passes-say .has; shortest = s .0; not-shorter = s .1; longest = l .0; not-longer = l .1 }
     where
       short : (k : ℕ) → Ends X Y U W p b k → k ≤ b .upper
       short k (empty j low e pre post) = omega arith

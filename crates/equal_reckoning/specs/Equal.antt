@@ -90,17 +90,17 @@ firstRows X Y W fys (suc i) = rowAfter X Y W i fys (firstRows X Y W fys i)
 
 -- ---- the table
 
-unfoldable pub mark : Bool → Bool → ℕ
-mark false f = 0
-mark true false = 1
-mark true true = 2
+unfoldable pub sign : Bool → Bool → ℕ
+sign false f = 0
+sign true false = 1
+sign true true = 2
 
 -- from the rows of the two passes
-unfoldable pub marks : ℕ → ℕ → List (List Bool) → List (List Bool) → List (List ℕ)
-marks U W b f = listed (λ i. listed (λ j. mark (at (getD b i []) j) (at (getD f (U - i) []) (W - j))) 0 (suc W)) 0 (suc U)
+unfoldable pub signs : ℕ → ℕ → List (List Bool) → List (List Bool) → List (List ℕ)
+signs U W b f = listed (λ i. listed (λ j. sign (at (getD b i []) j) (at (getD f (U - i) []) (W - j))) 0 (suc W)) 0 (suc U)
 
 unfoldable pub tableOf : (ℕ → Block) → (ℕ → Block) → ℕ → ℕ → List (List ℕ)
-tableOf X Y U W = marks U W (lastRows X Y U W (suc U)) (firstRows X Y W (listed (λ j. froms Y j j) 0 (suc W)) (suc U))
+tableOf X Y U W = signs U W (lastRows X Y U W (suc U)) (firstRows X Y W (listed (λ j. froms Y j j) 0 (suc W)) (suc U))
 
 unfoldable pub cellOf : List (List ℕ) → ℕ → ℕ → ℕ
 cellOf t i j = getD (getD t i []) j 0

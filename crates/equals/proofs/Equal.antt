@@ -83,7 +83,7 @@ pub says-none : {pad : ℕ} {x y : List ℕ} {ox oy mines rows : List ℕ} {last
 says-none {pad} {x} {y} {last = last} wx wy t e n = record {
   both = λ z. absurd (false≢true z);
   neither = λ z. record {
-    none = equal-none pad (shapeOf x) (shapeOf y) (wx .sound) (wy .sound) (λ p. n (subst (Holds last) (sym e) (t .last-is .mark (total (shapeOf y)) p)));
+    none = equal-none pad (shapeOf x) (shapeOf y) (wx .sound) (wy .sound) (λ p. n (subst (Holds last) (sym e) (t .last-is .has (total (shapeOf y)) p)));
     first-output = refl;
     second-output = refl;
   };

@@ -26,10 +26,10 @@ use Rattle.books.proofs.Refused.{book-one, book-not}
 use Rattle.book_runs.proofs.Rounds.{walk-one}
 use Rattle.book_runs.proofs.Determined.{same-shapes, not-none}
 use Rattle.file_lines.specs.Book.{Book, RightBlock}
-use Rattle.files.specs.declared.Sizes.{Sizes}
+use Rattle.file_books.specs.declared.Sizes.{Sizes}
 use Rattle.files.specs.Departs.{FileAccepted}
-use Rattle.files.specs.Promise.{BookRead}
-use Rattle.files.proofs.Ready.{ready}
+use Rattle.file_books.specs.Promise.{BookRead}
+use Rattle.file_books.proofs.Ready.{ready}
 use Rattle.files.proofs.Unique.{accepted-one, refused-one, not-both}
 use Rattle.file_reports.proofs.Ready.{right-of-sound}
 use Rattle.file_reports.specs.Report.{Verdict}

@@ -3,7 +3,7 @@ use answers::Checked;
 use answers::Ran;
 use answers::Refusal;
 use answers::Written;
-use files::Read;
+use file_books::Read;
 ghost use mathlib.Core.Path.{_≡_};
 ghost use Prim.Native.Nat.{_^_, _<_};
 ghost use lib.ListN.{length, replicate};
@@ -23,7 +23,7 @@ fn refuse_short(counts: &[u64], blocks: &[u64], rules: &[u64], work: usize, room
     requires { ⌜ room < 16384 ⌝ }
     ensures { λ r. ⌜ ReportRefused (now (counts .entry)) (now (blocks .entry)) (now (rules .entry)) work room (told r) ⌝ }
 {
-    match books::check_book(counts, blocks, rules, work) {
+    match book_checks::check_book(counts, blocks, rules, work) {
         Checked::Refused(r) => r,
         Checked::Sound => Refusal::Output(0),
     }
@@ -61,7 +61,7 @@ pub fn run_lent(file: &[u8], report: &mut [u8], work: &mut [u8]) -> Written
     let mut counts = [0u64; 8];
     let mut blocks = [0u64; 1024];
     let mut rules = [0u64; 64];
-    match files::read_book(file, &mut counts, &mut blocks, &mut rules) {
+    match file_books::read_book(file, &mut counts, &mut blocks, &mut rules) {
         Read::Refused(r) => Written::Refused(r),
         Read::Book(sizes) => {
             let texts = sizes.texts;

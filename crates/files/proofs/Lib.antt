@@ -1,7 +1,4 @@
 -- The laws of book files that other crates cite.
 pub mod Book
 pub mod Unique
-pub mod Seen
-pub mod Whole
 pub mod Example
-pub mod Ready

@@ -1,4 +1,2 @@
--- The book file: when it departs from its grammar, and what its reading answers.
+-- The book file: when it departs from its grammar.
 pub mod Departs
-pub mod Parts
-pub mod Promise

@@ -1,4 +1,4 @@
 -- The laws of fitting.
 pub mod Lowest
 pub mod Rows
-pub mod Marks
+pub mod Table

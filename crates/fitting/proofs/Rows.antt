@@ -22,13 +22,13 @@ module _ (held s : ℕ) where
   pub steps-none : Exactly s (Steps held s 0)
   steps-none = record {
     so = λ p h. record { there = subst (Holds s) (let z : p ≡ p + 0 = omega arith in z) h; each = λ j l. absurd (omega arith) };
-    mark = λ p h. subst (Holds s) (let z : p + 0 ≡ p = omega arith in z) (h .there);
+    has = λ p h. subst (Holds s) (let z : p + 0 ≡ p = omega arith in z) (h .there);
   }
 
   -- one step, then k
   pub steps-more : {d n : ℕ} (k : ℕ) → Exactly d (Steps held s k) → Exactly n (λ p. Holds held p × Holds d (p + 1))
       → Exactly n (Steps held s (k + 1))
-  steps-more k x = exactly-as (λ p h. longer p (h .0) (x .so (p + 1) (h .1))) (λ p h. (first p h, x .mark (p + 1) (shorter p h)))
+  steps-more k x = exactly-as (λ p h. longer p (h .0) (x .so (p + 1) (h .1))) (λ p h. (first p h, x .has (p + 1) (shorter p h)))
     where
       longer : (p : ℕ) → Holds held p → Steps held s k (p + 1) → Steps held s (k + 1) p
       longer p h r = record {
@@ -57,19 +57,19 @@ module _ (held s : ℕ) where
   -- the places of k + 1 steps are added to those of at most k
   pub up-to-more : {d r n : ℕ} (k : ℕ) → Exactly r (StepsUpTo held s k) → Exactly d (Steps held s (k + 1)) → n ≡ bitOr r d
       → Exactly n (StepsUpTo held s (k + 1))
-  up-to-more {d} {r} k x y e = exactly-as so mark (either-exactly r d e)
+  up-to-more {d} {r} k x y e = exactly-as so has (either-exactly r d e)
     where
       so : (p : ℕ) → Holds r p ⊎ Holds d p → StepsUpTo held s (k + 1) p
       so p = ⊎-elim
           (λ h. let u = x .so p h in record { count = u .count; within = let w = u .within in omega arith; steps = u .steps })
           (λ h. record { count = k + 1; within = omega arith; steps = y .so p h })
 
-      mark : (p : ℕ) → StepsUpTo held s (k + 1) p → Holds r p ⊎ Holds d p
-      mark p u =
+      has : (p : ℕ) → StepsUpTo held s (k + 1) p → Holds r p ⊎ Holds d p
+      has p u =
           let w = u .within in
           ⊎-elim
-          (λ c. inl (x .mark p (record { count = u .count; within = omega arith; steps = u .steps })))
-          (λ c. let z : u .count ≡ k + 1 = omega arith in inr (y .mark p (subst (λ (k : ℕ). Steps held s k p) z (u .steps))))
+          (λ c. inl (x .has p (record { count = u .count; within = omega arith; steps = u .steps })))
+          (λ c. let z : u .count ≡ k + 1 = omega arith in inr (y .has p (subst (λ (k : ℕ). Steps held s k p) z (u .steps))))
           (lt-or-le (u .count) (k + 1))
 
 -- ---- what one block adds
@@ -89,7 +89,7 @@ module _ (held s mid l : ℕ) (x : Exactly mid (Steps held s l)) (p k : ℕ) whe
 
   parted : Steps held s (l + k) p → Steps held mid k p
   parted r = record {
-    there = x .mark (p + k) (record {
+    there = x .has (p + k) (record {
       there = subst (Holds s) (let z : p + (l + k) ≡ p + k + l = omega arith in z) (r .there);
       each = λ j c. subst (Holds held) (let z : p + (k + j) ≡ p + k + j = omega arith in z) (r .each (k + j) (omega arith));
     });
@@ -124,26 +124,26 @@ module _ (b : Block) (s : List Block) (t : List ℕ) (held after : ℕ) (h : Hel
       let within = g .within in
       let long = length-drop p t in
       let short : p + k ≤ length t = omega arith in
-      let there = w .mark (p + k) (short, subst (Fits s) (drop-drop k p t) (g .rest)) in
+      let there = w .has (p + k) (short, subst (Fits s) (drop-drop k p t) (g .rest)) in
       let taken : (j : ℕ) → j < k → Holds (b .base) (getD t (p + j) 0)
       = λ j c. let cut = length-take k (drop p t) in
       subst (Holds (b .base)) (getD-take k (drop p t) j 0 c ∙ getD-drop p t j 0) (all-at 0 (g .held) j (omega arith)) in
-      (k, g .enough, g .bounded, short, record { there = there; each = λ j c. h .mark (p + j) (omega arith, taken j c) })
+      (k, g .enough, g .bounded, short, record { there = there; each = λ j c. h .has (p + j) (omega arith, taken j c) })
 
 -- `most` steps more than the lower are as good as upper - lower: the text is no longer
 pub row-next : (b : Block) (s : List Block) (t : List ℕ) (held after mid most row : ℕ)
     → b .lower ≤ b .upper → most ≤ b .upper - b .lower → ((k : ℕ) → k ≤ b .upper - b .lower → k ≤ length t → k ≤ most)
     → HeldAt (b .base) t held → Exactly mid (Steps held after (b .lower)) → Exactly row (StepsUpTo held mid most)
     → Row s t after → Row (b ∷ s) t row
-row-next b s t held after mid most row ordered few enough h x y w = exactly-as so mark y
+row-next b s t held after mid most row ordered few enough h x y w = exactly-as so has y
   where
     so : (p : ℕ) → StepsUpTo held mid most p → (p ≤ length t) × Fits (b ∷ s) (drop p t)
     so p u =
         let c = u .within in
         fits-of-steps b s t held after h w p (b .lower + u .count) (omega arith) (omega arith) (joined held after mid (b .lower) x p (u .count) (u .steps))
 
-    mark : (p : ℕ) → (p ≤ length t) × Fits (b ∷ s) (drop p t) → StepsUpTo held mid most p
-    mark p f =
+    has : (p : ℕ) → (p ≤ length t) × Fits (b ∷ s) (drop p t) → StepsUpTo held mid most p
+    has p f =
         let g = steps-of-fits b s t held after h w p (f .0) (f .1) in
         let k : ℕ = g .0 - b .lower in
         let low = g .1 in

@@ -1,26 +1,33 @@
 -- What the inner functions of fitting answer. A set of places of a text is a number with a bit for each, as `sets` reads it.
 use mathlib.Core.Path.{_≡_}
-use mathlib.Core.List.{List}
+use mathlib.Core.List.{List, [], _∷_}
+use mathlib.Core.Logic.{_⊎_}
 use Prim.Native.Nat.{ℕ, _+_, _*_, _/_, _%_, _^_, _≤_, _<_}
 use lib.ListN.{length, getD, drop}
-use Rattle.bases.specs.Base.{Holds, codes}
+use Rattle.bases.specs.Base.{baseOf, Holds, codes}
 use Rattle.sets.specs.Set.{Exactly}
 use Rattle.shapes.specs.Shape.{Block, Fits}
-use Rattle.rows.specs.Row.{rowIn, rowSize}
 
--- word i of the marks has bit e: of the first k places of t, the one of that bit in word i % rowSize has the character i / 4
-abbrev pub NotedAt : List ℕ → ℕ → ℕ → ℕ → Type 0
-NotedAt t k i e = (e < 64) × ((i % rowSize * 64 + e < k) × (getD t (i % rowSize * 64 + e) 0 ≡ i / 4))
+-- a table has a word for each character and each 64 places of a text, those of the first 64 places first: one for each character, or four
+abbrev pub Sized : List ℕ → Type 0
+Sized table = (length table ≡ codes) ⊎ (length table ≡ 4 * codes)
 
--- the marks of the first k places of t: 128 rows of four words
-pub record Noted (t : List ℕ) (k : ℕ) (marks : List ℕ) : Type 0 where
-  pub long : length marks ≡ 512
-  pub small : (i : ℕ) → i < 512 → getD marks i 0 < 2 ^ 64
-  pub words : (i : ℕ) → i < 512 → Exactly (getD marks i 0) (NotedAt t k i)
+-- the row of character c; a word past the table's end is 0
+abbrev pub rowOf : List ℕ → ℕ → ℕ
+rowOf table c = baseOf (getD table c 0 ∷ (getD table (128 + c) 0 ∷ (getD table (256 + c) 0 ∷ (getD table (384 + c) 0 ∷ []))))
 
--- row c of the marks has the places of the character c
-abbrev pub Marked : List ℕ → List ℕ → Type 0
-Marked t marks = (c : ℕ) → c < codes → Exactly (rowIn marks c) (λ p. (p < length t) × (getD t p 0 ≡ c))
+-- word i of a table has bit e: of the first k places of t, the one of that bit among the 64 of the word has the word's character
+abbrev pub PlacedAt : List ℕ → ℕ → ℕ → ℕ → Type 0
+PlacedAt t k i e = (e < 64) × ((i / codes * 64 + e < k) × (getD t (i / codes * 64 + e) 0 ≡ i % codes))
+
+-- the table of the first k places of t
+pub record Placed (t : List ℕ) (k : ℕ) (table : List ℕ) : Type 0 where
+  pub small : (i : ℕ) → getD table i 0 < 2 ^ 64
+  pub words : (i : ℕ) → Exactly (getD table i 0) (PlacedAt t k i)
+
+-- row c of the table has the places of the character c
+abbrev pub PlacesOf : List ℕ → List ℕ → Type 0
+PlacesOf t table = (c : ℕ) → c < codes → Exactly (rowOf table c) (λ p. (p < length t) × (getD t p 0 ≡ c))
 
 -- the first k characters of t are among those seen, but for bytes above 127
 abbrev pub SeenTo : List ℕ → ℕ → ℕ → Type 0

@@ -17,8 +17,9 @@ use Rattle.pairs.specs.Narrow.{Narrows, NoPair}
 use Rattle.laying.specs.Laid.{replaced}
 use Rattle.joins.specs.Refused.{JoinAccepted}
 use Rattle.joins.specs.Join.{Triples, JoinNarrows, JoinAnswer}
-use Rattle.joins.proofs.Turned.{Turned, turned-none, turned-hull}
-use Rattle.joins.proofs.Line.{words-first, words-take, words-drop, front-laid, whole-length, line-shape}
+use Rattle.join_lines.proofs.Turned.{Turned, turned-none, turned-hull}
+use Rattle.join_lines.proofs.Laid.{front-laid}
+use Rattle.joins.proofs.Line.{words-first, words-take, words-drop, whole-length, line-shape}
 
 -- ---- the rule
 

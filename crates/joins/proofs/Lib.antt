@@ -1,5 +1,4 @@
 -- The laws of a join.
-pub mod Turned
 pub mod Line
 pub mod Join
 pub mod Refused

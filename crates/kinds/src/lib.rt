@@ -1,4 +1,4 @@
-// Narrowing two texts under the relation of a rule's kind: 0 equal once trailing blanks are dropped, 1 at most, 2 before, 4 equal to the letter.
+// Narrowing two texts under the relation of a rule's kind.
 use answers::Checked;
 use answers::Narrowed;
 ghost use Prim.Native.Nat.{_≤_};
@@ -20,13 +20,13 @@ pub fn narrow_accepted(
     requires { ⌜ (length (now x) ≤ length (now «out_x»)) × (length (now y) ≤ length (now «out_y»)) ⌝ }
     ensures { λ r. ⌜ NarrowAnswer (relationOf kind) (now (x .entry)) (now (y .entry)) (now («out_x» .entry)) (now («out_y» .entry)) (now («out_x» .exit)) (now («out_y» .exit)) r ⌝ }
 {
-    if kind == 0 {
-        return equals::narrow_padded(x, y, out_x, out_y);
+    match kind {
+        rules::PADDED => equals::narrow_padded(x, y, out_x, out_y),
+        rules::AT_MOST => orders::narrow_order(false, x, y, out_x, out_y),
+        rules::BEFORE => orders::narrow_order(true, x, y, out_x, out_y),
+        rules::EXACT => equals::narrow_exact(x, y, out_x, out_y),
+        _ => false,
     }
-    if kind == 4 {
-        return equals::narrow_exact(x, y, out_x, out_y);
-    }
-    orders::narrow_order(kind != 1, x, y, out_x, out_y)
 }
 
 // The call: the refusals of a pair, then the narrowing; the work buffer is handed back cleared.
@@ -42,7 +42,7 @@ pub fn narrow(
     ensures { λ r. ⌜ NarrowPromise (relationOf kind) (now (x .entry)) (now (y .entry)) (now (work .entry)) (now («out_x» .entry)) (now («out_y» .entry))
         (now (work .exit)) (now («out_x» .exit)) (now («out_y» .exit)) r ⌝ }
 {
-    match pairs::check_narrow(x, y, work.len(), out_x.len(), out_y.len()) {
+    match pair_checks::check_narrow(x, y, work.len(), out_x.len(), out_y.len()) {
         Checked::Refused(r) => Narrowed::Refused(r),
         Checked::Sound => {
             pairs::clear(work);

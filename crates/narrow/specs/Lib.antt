@@ -1,2 +1,2 @@
--- What reading the input answers.
-pub mod Within
+-- What the program prints.
+pub mod Printed

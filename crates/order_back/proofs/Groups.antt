@@ -43,11 +43,11 @@ given-none e = record { so = λ j c l h. inl h; kept = λ j c l h. h; more = λ 
 pub with-end : (s one u : ℕ) {n : ℕ} {may : Bool} → may ≡ true → Exactly one (λ i. i ≡ u) → n ≡ bitOr one s → Exactly n (λ i. ((i ≡ u) × (may ≡ true)) ⊎ Holds s i)
 with-end s one u m x e = exactly-as
     (λ i h. ⊎-elim (λ a. inl (x .so i a, m)) (λ a. inr a) h)
-    (λ i h. ⊎-elim (λ a. inl (x .mark i (a .0))) (λ a. inr a) h)
+    (λ i h. ⊎-elim (λ a. inl (x .has i (a .0))) (λ a. inr a) h)
     (either-exactly one s e)
 
 pub no-end : (s u : ℕ) {may : Bool} → may ≡ false → Exactly s (λ i. ((i ≡ u) × (may ≡ true)) ⊎ Holds s i)
-no-end s u m = record { so = λ i h. inr h; mark = λ i h. ⊎-elim (λ a. absurd (not-both (sym m ∙ a .1))) (λ a. a) h }
+no-end s u m = record { so = λ i h. inr h; has = λ i h. ⊎-elim (λ a. absurd (not-both (sym m ∙ a .1))) (λ a. a) h }
   where
     not-both : _≡_ {A = Bool} false true → ⊥
     not-both e = let z : _≡_ {A = ℕ} 0 1 = cc in omega arith
@@ -66,7 +66,7 @@ module _ {x z e s : List ℕ} (l : Laid x z e s) {k : ℕ} (blocks : k ≡ lengt
     parts = parting;
     leaves = exactly-as
         (λ i h. ⊎-elim (λ m. inl (m .0, t .so (m .1))) (λ m. inr (parting .so i m)) h)
-        (λ i h. ⊎-elim (λ m. inl (m .0, told may t (m .1))) (λ m. inr (parting .mark i m)) h)
+        (λ i h. ⊎-elim (λ m. inl (m .0, told may t (m .1))) (λ m. inr (parting .has i m)) h)
         (g .leaves);
   }
     where

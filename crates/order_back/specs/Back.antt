@@ -7,10 +7,12 @@ use Prim.Native.Nat.{ℕ, _≤_}
 use lib.ListN.{length}
 use Rattle.bases.specs.Base.{Holds}
 use Rattle.sets.specs.Set.{setOf, Exactly}
-use Rattle.shapes.specs.Shape.{Block, total}
+use Rattle.shapes.specs.Shape.{Block, total, blockCount}
 use Rattle.shapes.specs.Lent.{shapeOf, blockAt}
 use Rattle.rows.specs.Row.{rowIn, tableSize}
-use Rattle.rows.specs.Steps.{Matched, Given}
+use Rattle.rows.specs.Steps.{Matched, Given, Together}
+use Rattle.carries.specs.Climb.{Spans}
+use Rattle.row_steps.specs.declared.Runs.{Runs}
 use Rattle.order_sides.specs.Guide.{Guide}
 use Rattle.order_guides.specs.Guide.{Plain}
 use Rattle.row_paths.specs.Laid.{Laid}
@@ -19,9 +21,11 @@ use Rattle.order_states.specs.declared.Sorts.{Sorts}
 use Rattle.order_states.specs.declared.Gathered.{Gathered}
 use Rattle.order_states.specs.States.{PassOf}
 
--- A shape laid out, u past all its blocks, the first m bytes of a text, and room for the rows and for each block's characters.
-pub record Ready (x zones ends slots : List ℕ) (u : ℕ) (text : List ℕ) (m : ℕ) (rows chars : List ℕ) : Type 0 where
+-- A shape laid out, with its runs and their spans, u past all its blocks, the first m bytes of a text, and room for the rows and for each block's characters.
+pub record Ready (x zones ends slots spans : List ℕ) (runs : Runs) (u : ℕ) (text : List ℕ) (m : ℕ) (rows chars : List ℕ) : Type 0 where
   pub laid : Laid x zones ends slots
+  pub all : Together (rowIn zones) (rowIn ends) (blockCount x) (setOf (runs .free)) (setOf (runs .stops))
+  pub spanned : Spans (setOf (runs .free)) spans
   pub size : u ≡ total (shapeOf x)
   pub plain : Plain text m
   pub short : m ≤ 250

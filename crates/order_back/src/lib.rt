@@ -2,6 +2,7 @@
 use extremes::Direction;
 use order_states::Gathered;
 use order_states::Sorts;
+use row_steps::Runs;
 use sets::Set;
 ghost use mathlib.Core.Path.{_≡_};
 ghost use mathlib.Core.Bool.{true};
@@ -63,6 +64,8 @@ fn group(
     zones: &[u64],
     ends: &[u64],
     slots: &[u64],
+    spans: &[u64],
+    runs: Runs,
     u: usize,
     text: &[u8],
     m: usize,
@@ -72,7 +75,7 @@ fn group(
     clear: Set,
     chars: &mut [u64],
 ) -> Gathered
-    requires { ⌜ Ready (now x) (now zones) (now ends) (now slots) u (now text) m (now rows) (now chars) ⌝ }
+    requires { ⌜ Ready (now x) (now zones) (now ends) (now slots) (now spans) runs u (now text) m (now rows) (now chars) ⌝ }
     requires { ⌜ (lo < hi) × (hi ≤ 251) ⌝ }
     requires { ⌜ MatchRows (slotAt (shapeOf (now x))) (nextOf (take m (now text))) (now rows) (hi - 1) ⌝ }
     requires { ⌜ Steady (guideOf d strict (take m (now text))) lo hi ⌝ }
@@ -91,7 +94,7 @@ fn group(
         slots,
         u,
     );
-    let g = order_states::states(zones, ends, k, rows, s, lo, hi, clear);
+    let g = order_states::states(zones, ends, k, spans, runs, rows, s, lo, hi, clear);
     give_some(g.moved, same, slots, chars, k);
     give_some(g.parted, apart, slots, chars, k);
     g
@@ -117,6 +120,8 @@ pub fn gather(
     zones: &[u64],
     ends: &[u64],
     slots: &[u64],
+    spans: &[u64],
+    runs: Runs,
     u: usize,
     text: &[u8],
     m: usize,
@@ -124,7 +129,7 @@ pub fn gather(
     n: usize,
     chars: &mut [u64],
 ) -> Gathered
-    requires { ⌜ Ready (now x) (now zones) (now ends) (now slots) u (now text) m (now rows) (now chars) ⌝ }
+    requires { ⌜ Ready (now x) (now zones) (now ends) (now slots) (now spans) runs u (now text) m (now rows) (now chars) ⌝ }
     requires { ⌜ Forth (now x) (now text) m (now rows) n ⌝ }
     requires { ⌜ ((j : ℕ) → j < blockCount (now x) → rowIn (now chars) j ≡ 0) ⌝ }
     ensures { λ r. ⌜ Gathers (slotAt (shapeOf (now (x .entry)))) (guideOf d strict (take m (now (text .entry)))) u (now (slots .entry)) (blockCount (now (x .entry))) (now (chars .exit)) r ⌝ }
@@ -144,6 +149,8 @@ pub fn gather(
                 zones,
                 ends,
                 slots,
+                spans,
+                runs,
                 u,
                 text,
                 m,

@@ -44,7 +44,8 @@ pub fn forth(
     ensures { λ _. ⌜ length (now (rows .exit)) ≡ length (now (rows .entry)) ⌝ }
 {
     let k = x.len() / shapes::SIZE;
-    let mut row = row_steps::forth(zones, ends, k, sets::single(0));
+    let runs = row_steps::all_runs(zones, ends, k);
+    let mut row = row_steps::close_forth(runs, sets::single(0));
     rows::put_row(rows, 0, row);
     let mut mask = sets::none();
     let mut q = 0;
@@ -53,7 +54,7 @@ pub fn forth(
             return q;
         }
         mask = next_mask(x, slots, k, text, m, q, mask);
-        row = row_steps::forth(zones, ends, k, sets::up(sets::both(row, mask)));
+        row = row_steps::close_forth(runs, sets::up(sets::both(row, mask)));
         q += 1;
         rows::put_row(rows, q, row);
     }

@@ -68,8 +68,8 @@ more-of (higher h) = h
 
 pub above-exactly : (c : ℕ) → Exactly (beyondOf Greatest c) (λ e. (e < 256) × (c < e))
 above-exactly c = exactly-as
-    (λ e h. (ones-exactly 256 .so e (h .0), ⊎-elim (λ l. absurd (h .1 (ones-exactly (c + 1) .mark e l))) (λ l. omega arith) (lt-or-le e (c + 1))))
-    (λ e h. (ones-exactly 256 .mark e (h .0), λ k. let l = ones-exactly (c + 1) .so e k in let g = h .1 in omega arith))
+    (λ e h. (ones-exactly 256 .so e (h .0), ⊎-elim (λ l. absurd (h .1 (ones-exactly (c + 1) .has e l))) (λ l. omega arith) (lt-or-le e (c + 1))))
+    (λ e h. (ones-exactly 256 .has e (h .0), λ k. let l = ones-exactly (c + 1) .so e k in let g = h .1 in omega arith))
     (without-exactly (under 256) (under (c + 1)) refl)
 
 beyond-so : (d : Direction) (c e : ℕ) → Holds (beyondOf d e) c → Beyond d c e
@@ -77,8 +77,8 @@ beyond-so Least c e h = lower (ones-exactly e .so c h)
 beyond-so Greatest c e h = higher (above-exactly e .so c h .1)
 
 beyond-mark : (d : Direction) (c e : ℕ) → c < 256 → Beyond d c e → Holds (beyondOf d e) c
-beyond-mark Least c e l b = ones-exactly e .mark c (less-of b)
-beyond-mark Greatest c e l b = above-exactly e .mark c (l, more-of b)
+beyond-mark Least c e l b = ones-exactly e .has c (less-of b)
+beyond-mark Greatest c e l b = above-exactly e .has c (l, more-of b)
 
 past-so : (d : Direction) (c : ℕ) → Holds (pastOf d) c → d ≡ Greatest
 unfolding Empty
@@ -87,7 +87,7 @@ past-so Greatest c h = refl
 
 past-mark : (d : Direction) (c : ℕ) → c < 256 → d ≡ Greatest → Holds (pastOf d) c
 past-mark Least c l e = not-both e
-past-mark Greatest c l e = ones-exactly 256 .mark c l
+past-mark Greatest c l e = ones-exactly 256 .has c l
 
 shorter-so : (d : Direction) → 0 < shorterOf d → d ≡ Least
 shorter-so Least h = refl
@@ -116,7 +116,7 @@ module _ (T : List ℕ) (q : ℕ) where
       (lt-or-le q (length T))
 
   pub next-mark : (c : ℕ) → NextIs T q c → Holds (nextOf T q) c
-  next-mark c n = subst (λ (x : ℕ). Holds x c) (sym (next-here T q (n .within))) (one-exactly (getD T q 0) .mark c (n .same))
+  next-mark c n = subst (λ (x : ℕ). Holds x c) (sym (next-here T q (n .within))) (one-exactly (getD T q 0) .has c (n .same))
 
   module _ (d : Direction) where
     pub apart-so : (c : ℕ) → Holds (apartOf d T q) c → PartsFrom d T q c

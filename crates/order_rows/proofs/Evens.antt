@@ -64,7 +64,7 @@ module _ {X : ℕ → Block} {T : ℕ → ℕ} where
   -- where the row is empty, and where T has ended
   pub limit-empty : {n r : ℕ} → Exactly r (λ i. Matches X T i n) → Empty r → Limit X T n
   unfolding Empty
-  limit-empty x e = limit-at (λ i p. e i (x .mark i p))
+  limit-empty x e = limit-at (λ i p. e i (x .has i p))
 
   pub limit-end : (n : ℕ) → ((c : ℕ) → Holds (T n) c → ⊥) → Limit X T (n + 1)
   limit-end n f = limit-at (λ i p. let r = even-before p in let m = r .2 in f (m .shared) (m .second))
@@ -80,14 +80,14 @@ module _ {X : ℕ → Block} {T : ℕ → ℕ} {Z E : ℕ → ℕ} {k : ℕ} (z 
   leads-even {q = q} f (step {e = e} n l to from r) = subst (λ (x : ℕ). Matches X T x q) (sym (z .stop n e _ l from to)) (even-ended (leads-even f r) (z .free n e l from))
 
   led-first : {s i q : ℕ} → Exactly s (λ i. i ≡ 0) → Led X T i q → q ≡ 0 → Leads E Z k s i
-  led-first {i = i} x (begin e f) g = there (x .mark i e)
+  led-first {i = i} x (begin e f) g = there (x .has i e)
   led-first x (ended h l p o e) g = step-on z o e (led-first x l g)
   led-first x (taken h s p m e f) g = absurd (omega arith)
 
   pub row-first : {s r : ℕ} → Exactly s (λ i. i ≡ 0) → Exactly r (Leads E Z k s) → Exactly r (λ i. Matches X T i 0)
   row-first x y = record {
     so = λ i h. leads-even (λ j g. stay (sym (x .so j g)) refl) (y .so i h);
-    mark = λ i p. y .mark i (led-first x (led p) refl);
+    has = λ i p. y .has i (led-first x (led p) refl);
   }
 
   module _ (row same q : ℕ) {a u : ℕ} (x : Exactly row (λ i. Matches X T i q)) (m : Exactly same (λ i. Meets (X i .base) (T q)))
@@ -105,12 +105,12 @@ module _ {X : ℕ → Block} {T : ℕ → ℕ} {Z E : ℕ → ℕ} {k : ℕ} (z 
         let same-state : s ≡ q = omega arith in
         let n′ = subst (λ (x : ℕ). Meets (X h .base) (T x)) same-state n in
         let b = z .within h (n′ .shared) (n′ .first) in
-        there (up .mark i (omega arith, record { number = h; held = held .mark h (x .mark h (subst (Matches X T h) same-state p), m .mark h n′); next = f }))
+        there (up .has i (omega arith, record { number = h; held = held .has h (x .has h (subst (Matches X T h) same-state p), m .has h n′); next = f }))
 
     pub row-next : {r : ℕ} → Exactly r (Leads E Z k u) → Exactly r (λ i. Matches X T i (q + 1))
     row-next y = record {
       so = λ i h. leads-even (λ j g. taken-to j (up .so j g .1)) (y .so i h);
-      mark = λ i p. y .mark i (led-next (led p) refl);
+      has = λ i p. y .has i (led-next (led p) refl);
     }
       where
         taken-to : (j : ℕ) → OneUp a j → Matches X T j (q + 1)

@@ -8,9 +8,7 @@ use Rattle.bases.specs.Base.{Holds, Empty, Least}
 use Rattle.sets.specs.Set.{Exactly}
 use Rattle.sets.proofs.Exact.{exactly-as, both-exactly, either-exactly, down-exactly}
 use Rattle.shapes.specs.Shape.{Block}
-use Rattle.rests.specs.Walk.{Bounded}
-use Rattle.rests.proofs.Walks.{below}
-use Rattle.rows.specs.Steps.{Leads, there, Lands, Given}
+use Rattle.rows.specs.Steps.{AnyOf, Given}
 use Rattle.row_paths.specs.Rows.{Zones}
 use Rattle.order_sides.specs.Guide.{Guide, Free}
 use Rattle.order_rows.specs.Rows.{Limit, QuitsAt, Moves, PartsAt, PassAlong, Brings, Brought, MayQuit, MayMove, MayTake, Known}
@@ -19,13 +17,13 @@ module _ {X : ℕ → Block} {G : Guide} {U h clear quit moved parted : ℕ} (pa
   -- ---- all states
 
   quits-all : (i q : ℕ) → QuitsAt X G U q i → Holds quit i
-  quits-all i q x = pass .quits .mark i (record { state = q; from = omega arith; before = limit i q (x .reached); has = x })
+  quits-all i q x = pass .quits .has i (record { state = q; from = omega arith; before = limit i q (x .reached); has = x })
 
   moves-all : (i q : ℕ) → Moves X G U q i → Holds moved i
-  moves-all i q x = pass .moves .mark i (record { state = q; from = omega arith; before = limit i q (x .reached); has = x })
+  moves-all i q x = pass .moves .has i (record { state = q; from = omega arith; before = limit i q (x .reached); has = x })
 
   parts-all : (i q : ℕ) → PartsAt X G q i → Holds parted i
-  parts-all i q x = pass .parts .mark i (record { state = q; from = omega arith; before = limit i q (x .reached); has = x })
+  parts-all i q x = pass .parts .has i (record { state = q; from = omega arith; before = limit i q (x .reached); has = x })
 
   module _ {S : ℕ → ℕ} {k : ℕ} {A : ℕ → ℕ} (b : Brought X G U S k 0 h A) where
     take-so : (j c : ℕ) → j < k → Holds (A j) c → MayTake X G U (S j) c
@@ -36,20 +34,20 @@ module _ {X : ℕ → Block} {G : Guide} {U h clear quit moved parted : ℕ} (pa
         go (Brings.parts q i f e s m g) = MayTake.parts q i s m g
 
     stays-mark : (j c q i : ℕ) → j < k → Holds (S j) i → Moves X G U q i → Holds (G .same q) c → Holds (A j) c
-    stays-mark j c q i l s m g = b .mark j c l (Brings.stays q i (omega arith) (limit i q (m .reached)) s m g)
+    stays-mark j c q i l s m g = b .has j c l (Brings.stays q i (omega arith) (limit i q (m .reached)) s m g)
 
     parts-mark : (j c q i : ℕ) → j < k → Holds (S j) i → PartsAt X G q i → Holds (G .apart q) c → Holds (A j) c
-    parts-mark j c q i l s m g = b .mark j c l (Brings.parts q i (omega arith) (limit i q (m .reached)) s m g)
+    parts-mark j c q i l s m g = b .has j c l (Brings.parts q i (omega arith) (limit i q (m .reached)) s m g)
 
     -- ---- where no text parts from T
 
     pub known-even : Empty parted → Known X G U S k quit moved A
     unfolding Empty
     known-even e = record {
-      quits = record { so = λ i a. let d = pass .quits .so i a in MayQuit.even (d .state) (d .has); mark = quit-mark };
-      moves = record { so = λ i a. let d = pass .moves .so i a in MayMove.even (d .state) (d .has); mark = move-mark };
+      quits = record { so = λ i a. let d = pass .quits .so i a in MayQuit.even (d .state) (d .has); has = quit-mark };
+      moves = record { so = λ i a. let d = pass .moves .so i a in MayMove.even (d .state) (d .has); has = move-mark };
       so = take-so;
-      mark = take-mark;
+      has = take-mark;
     }
       where
         none : {i : ℕ} → Free X G i → ⊥
@@ -83,18 +81,15 @@ module _ {X : ℕ → Block} {G : Guide} {U h clear quit moved parted : ℕ} (pa
       free-mark i l a =
           let g = first .least (a .at) (parts-all (a .at) (a .state) (record { reached = a .reached; meets = a .parts })) in
           let w = a .before in
-          x .mark i (omega arith, omega arith)
+          x .has i (omega arith, omega arith)
 
-      module _ {Z E : ℕ → ℕ} (z : Zones X Z E k) (bound : Bounded X U) {s r t : ℕ} (y : Exactly s (λ i. i < U + 1)) (w : Exactly r (Leads Z E k s)) (o : Exactly t (Lands Z E k r)) where
+      module _ {Z E : ℕ → ℕ} (z : Zones X Z E k) {t : ℕ} (o : Exactly t (AnyOf Z k)) where
         -- t has the positions where a run may end
         zone-so : (i : ℕ) → Holds t i → X i .lower ≡ 0
-        zone-so i a = let n = o .so i a in z .free (n .number) i (n .below) (n .from)
+        zone-so i a = let n = o .so i a in z .free (n .number) i (n .below) (n .held)
 
-        zone-mark : (i : ℕ) → i ≤ U → X i .lower ≡ 0 → Holds t i
-        zone-mark i l a =
-            let n = z .find i a in
-            let e = bound .within i (below bound i l a) in
-            o .mark i (record { number = n .0; below = n .1; from = n .2; to = record { shared = i + X i .upper; first = n .3; second = w .mark (i + X i .upper) (there (y .mark (i + X i .upper) (omega arith))) } })
+        zone-mark : (i : ℕ) → X i .lower ≡ 0 → Holds t i
+        zone-mark i a = let n = z .find i a in o .has i (record { number = n .0; below = n .1; held = n .2 })
 
         pub known-free : {a e quit′ moved′ all : ℕ} {B : ℕ → ℕ} → a ≡ bitAnd d t → quit′ ≡ bitOr quit a → e ≡ d / 2 → moved′ ≡ bitOr moved e
             → Exactly all (λ c. c < 256) → Given S k d all A B → Known X G U S k quit′ moved′ B
@@ -102,7 +97,7 @@ module _ {X : ℕ → Block} {G : Guide} {U h clear quit moved parted : ℕ} (pa
           quits = exactly-as quit-so quit-mark (either-exactly quit a eq);
           moves = exactly-as move-so move-mark (either-exactly moved e em);
           so = λ j c l i. ⊎-elim (λ v. take-so j c l v) (λ n. let m = n .0 in let v = free-so (m .shared) (m .first) in MayTake.free (m .shared) (m .second) (v .0) (xa .so c (n .1)) (v .1)) (g .so j c l i);
-          mark = take-mark;
+          has = take-mark;
         }
           where
             quit-so : (i : ℕ) → Holds quit i ⊎ Holds a i → MayQuit X G U i
@@ -113,7 +108,7 @@ module _ {X : ℕ → Block} {G : Guide} {U h clear quit moved parted : ℕ} (pa
 
             quit-mark : (i : ℕ) → MayQuit X G U i → Holds quit i ⊎ Holds a i
             quit-mark i (MayQuit.even q v) = inl (quits-all i q v)
-            quit-mark i (MayQuit.free l v n) = inr (both-exactly d t ea .mark i (free-mark i l n, zone-mark i l v))
+            quit-mark i (MayQuit.free l v n) = inr (both-exactly d t ea .has i (free-mark i l n, zone-mark i v))
 
             move-so : (i : ℕ) → Holds moved i ⊎ Holds e i → MayMove X G U i
             move-so i v = ⊎-elim
@@ -123,9 +118,9 @@ module _ {X : ℕ → Block} {G : Guide} {U h clear quit moved parted : ℕ} (pa
 
             move-mark : (i : ℕ) → MayMove X G U i → Holds moved i ⊎ Holds e i
             move-mark i (MayMove.even q v) = inl (moves-all i q v)
-            move-mark i (MayMove.free l n) = inr (down-exactly d ed .mark i (free-mark (i + 1) l n))
+            move-mark i (MayMove.free l n) = inr (down-exactly d ed .has i (free-mark (i + 1) l n))
 
             take-mark : (j c : ℕ) → j < k → MayTake X G U (S j) c → Holds (B j) c
             take-mark j c l (MayTake.stays q i v m n) = g .kept j c l (stays-mark j c q i l v m n)
             take-mark j c l (MayTake.parts q i v m n) = g .kept j c l (parts-mark j c q i l v m n)
-            take-mark j c l (MayTake.free i v u n m) = g .more j c l (record { shared = i; first = free-mark i u m; second = v }) (xa .mark c n)
+            take-mark j c l (MayTake.free i v u n m) = g .more j c l (record { shared = i; first = free-mark i u m; second = v }) (xa .has c n)

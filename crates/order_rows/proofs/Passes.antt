@@ -39,8 +39,8 @@ module _ (P : ℕ → ℕ → Type 0) where
 
       from : (i : ℕ) → During lo hi (λ q. P q i) → Holds a i ⊎ Holds b i
       from i d = ⊎-elim
-          (λ k. inr (y .mark i (record { state = d .state; from = d .from; before = k; has = d .has })))
-          (λ k. inl (x .mark i (record { state = d .state; from = k; before = d .before; has = d .has })))
+          (λ k. inr (y .has i (record { state = d .state; from = d .from; before = k; has = d .has })))
+          (λ k. inl (x .has i (record { state = d .state; from = k; before = d .before; has = d .has })))
           (lt-or-le (d .state) mid)
 
 module _ {X : ℕ → Block} {G : Guide} {U : ℕ} where
@@ -100,7 +100,7 @@ module _ {X : ℕ → Block} {G : Guide} {U : ℕ} where
   module _ {S : ℕ → ℕ} {k : ℕ} where
     pub brought-none : {hi : ℕ} {A : ℕ → ℕ} → ((j : ℕ) → j < k → A j ≡ 0) → Brought X G U S k hi hi A
     unfolding Empty
-    brought-none {hi} f = record { so = λ j c l h. absurd (none-in-zero c (subst (λ (n : ℕ). Holds n c) (f j l) h)); mark = λ j c l b. absurd (none b) }
+    brought-none {hi} f = record { so = λ j c l h. absurd (none-in-zero c (subst (λ (n : ℕ). Holds n c) (f j l) h)); has = λ j c l b. absurd (none b) }
       where
         none : {slot c : ℕ} → Brings X G U slot hi hi c → ⊥
         none (Brings.stays q i l h s m g) = omega arith
@@ -113,7 +113,7 @@ module _ {X : ℕ → Block} {G : Guide} {U : ℕ} where
         → Given S k m t A B → Given S k p u B D → Brought X G U S k lo hi D
     brought-more {A} {B} {D} {lo} {mid} {hi} {m} {t} {p} {u} l h x y z same apart g f = record {
       so = λ j c w b. ⊎-elim (λ b. ⊎-elim (λ a. wider (x .so j c w a)) (λ n. stay j c (n .0) (n .1)) (g .so j c w b)) (λ n. part j c (n .0) (n .1)) (f .so j c w b);
-      mark = mark;
+      has = has;
     }
       where
         wider : {slot c : ℕ} → Brings X G U slot mid hi c → Brings X G U slot lo hi c
@@ -132,12 +132,12 @@ module _ {X : ℕ → Block} {G : Guide} {U : ℕ} where
             let b = d .before in
             Brings.parts (d .state) (n .shared) (d .from) (omega arith) (n .second) (d .has) (subst (λ (a : ℕ). Holds a c) (sym (apart (d .state) (d .from) b)) e)
 
-        mark : (j c : ℕ) → j < k → Brings X G U (S j) lo hi c → Holds (D j) c
-        mark j c w (Brings.stays q i a b s v e) = f .kept j c w (⊎-elim
-            (λ n. g .more j c w (record { shared = i; first = y .mark i (record { state = q; from = a; before = n; has = v }); second = s }) (subst (λ (x : ℕ). Holds x c) (same q a n) e))
-            (λ n. g .kept j c w (x .mark j c w (Brings.stays q i n b s v e)))
+        has : (j c : ℕ) → j < k → Brings X G U (S j) lo hi c → Holds (D j) c
+        has j c w (Brings.stays q i a b s v e) = f .kept j c w (⊎-elim
+            (λ n. g .more j c w (record { shared = i; first = y .has i (record { state = q; from = a; before = n; has = v }); second = s }) (subst (λ (x : ℕ). Holds x c) (same q a n) e))
+            (λ n. g .kept j c w (x .has j c w (Brings.stays q i n b s v e)))
             (lt-or-le q mid))
-        mark j c w (Brings.parts q i a b s v e) = ⊎-elim
-            (λ n. f .more j c w (record { shared = i; first = z .mark i (record { state = q; from = a; before = n; has = v }); second = s }) (subst (λ (x : ℕ). Holds x c) (apart q a n) e))
-            (λ n. f .kept j c w (g .kept j c w (x .mark j c w (Brings.parts q i n b s v e))))
+        has j c w (Brings.parts q i a b s v e) = ⊎-elim
+            (λ n. f .more j c w (record { shared = i; first = z .has i (record { state = q; from = a; before = n; has = v }); second = s }) (subst (λ (x : ℕ). Holds x c) (apart q a n) e))
+            (λ n. f .kept j c w (g .kept j c w (x .has j c w (Brings.parts q i n b s v e))))
             (lt-or-le q mid)

@@ -52,24 +52,24 @@ module _ {X : ℕ → Block} {G : Guide} {U : ℕ} where
         stay-so i h = let t = taken .so i h in (g .stays .so i (t .1), rest .so (i + 1) (lower .so i (t .0)))
 
         stay-mark : (i : ℕ) → Even X G i q → Meets (X i .base) (G .same q) → Clear X G U (i + 1) (q + 1) → Holds stay i
-        stay-mark i p m k = taken .mark i (lower .mark i (rest .mark (i + 1) (even-taken p m) k), g .stays .mark i m)
+        stay-mark i p m k = taken .has i (lower .has i (rest .has (i + 1) (even-taken p m) k), g .stays .has i m)
 
         all-so : (i : ℕ) → Holds all i → Opens X G U q i
         all-so i h = ⊎-elim (λ l. over (g .leaves .so i l)) (λ s. let t = stay-so i s in same (t .0) (t .1)) (either .so i h)
 
         all-mark : (i : ℕ) → Even X G i q → Opens X G U q i → Holds all i
-        all-mark i p (over h) = either .mark i (inl (g .leaves .mark i h))
-        all-mark i p (same m k) = either .mark i (inr (stay-mark i p m k))
+        all-mark i p (over h) = either .has i (inl (g .leaves .has i h))
+        all-mark i p (same m k) = either .has i (inr (stay-mark i p m k))
 
         pub moves-here : (row : ℕ) {n : ℕ} → Exactly row (λ i. Even X G i q) → n ≡ bitAnd row stay → Exactly n (λ i. Moves X G U q i)
         moves-here row r e = record {
           so = λ i h. let b = both-exactly row stay e .so i h in let t = stay-so i (b .1) in record { reached = r .so i (b .0); meets = t .0; on = t .1 };
-          mark = λ i m. both-exactly row stay e .mark i (r .mark i (m .reached), stay-mark i (m .reached) (m .meets) (m .on));
+          has = λ i m. both-exactly row stay e .has i (r .has i (m .reached), stay-mark i (m .reached) (m .meets) (m .on));
         }
 
         module _ {r : ℕ} (l : Exactly r (Leads Z E k all)) where
           pub rests-here : Right X G U q r
-          rests-here = record { so = λ i h. leads-clear all-so (l .so i h); mark = λ i p h. l .mark i (clear-leads all-mark p h) }
+          rests-here = record { so = λ i h. leads-clear all-so (l .so i h); has = λ i p h. l .has i (clear-leads all-mark p h) }
 
           pub quits-here : (row t : ℕ) {n : ℕ} → Exactly row (λ i. Even X G i q) → Exactly t (Lands Z E k r) → n ≡ bitAnd row t → Exactly n (λ i. QuitsAt X G U q i)
           quits-here row t v o e = record {
@@ -82,19 +82,19 @@ module _ {X : ℕ → Block} {G : Guide} {U : ℕ} where
                   enough = z .free (n .number) i (n .below) (n .from);
                   on = subst (λ (x : ℕ). Clear X G U x q) (z .stop (n .number) i (m .shared) (n .below) (n .from) (m .first)) (rests-here .so (m .shared) (m .second));
                 };
-            mark = λ i m.
+            has = λ i m.
                 let f = z .find i (m .enough) in
-                let held = rests-here .mark (i + X i .upper) (even-ended (m .reached) (m .enough)) (m .on) in
-                both-exactly row t e .mark i (v .mark i (m .reached), o .mark i (record { number = f .0; below = f .1; from = f .2; to = record { shared = i + X i .upper; first = f .3; second = held } }));
+                let held = rests-here .has (i + X i .upper) (even-ended (m .reached) (m .enough)) (m .on) in
+                both-exactly row t e .has i (v .has i (m .reached), o .has i (record { number = f .0; below = f .1; from = f .2; to = record { shared = i + X i .upper; first = f .3; second = held } }));
           }
 
       pub parts-here : (row : ℕ) {n : ℕ} → Exactly row (λ i. Even X G i q) → n ≡ bitAnd row apart → Exactly n (λ i. PartsAt X G q i)
       parts-here row r e = record {
         so = λ i h. let b = both-exactly row apart e .so i h in record { reached = r .so i (b .0); meets = g .parts .so i (b .1) };
-        mark = λ i m. both-exactly row apart e .mark i (r .mark i (m .reached), g .parts .mark i (m .meets));
+        has = λ i m. both-exactly row apart e .has i (r .has i (m .reached), g .parts .has i (m .meets));
       }
 
   -- past all states there is none
   pub rests-none : {q c : ℕ} → c ≡ 0 → ((i : ℕ) → Even X G i q → ⊥) → Right X G U q c
   unfolding Empty
-  rests-none {q} {c} e f = record { so = λ i h. absurd (none-in-zero i (subst (λ (x : ℕ). Holds x i) e h)); mark = λ i p h. absurd (f i p) }
+  rests-none {q} {c} e f = record { so = λ i h. absurd (none-in-zero i (subst (λ (x : ℕ). Holds x i) e h)); has = λ i p h. absurd (f i p) }

@@ -78,7 +78,7 @@ module _ {X : ℕ → Block} {U p : ℕ} {b : Block} (at : Spot X U p b) where
       length-ends {n} {s} a (bare z e) = let u = ends-up a in subst (Ends X G U p b) (let g : s ≡ n = omega arith in g) a
 
       by-quit : {n : ℕ} → n < b .upper → MayQuit X G U (p + n) → LengthBy quit moved p b n
-      by-quit l q = early l (x .quits .mark _ q)
+      by-quit l q = early l (x .quits .has _ q)
 
       pub ends-length : {n : ℕ} → Ends X G U p b n → LengthBy quit moved p b n
       ends-length {n} (Ends.free low up f) = ⊎-elim
@@ -87,7 +87,7 @@ module _ {X : ℕ → Block} {U p : ℕ} {b : Block} (at : Spot X U p b) where
           (λ z. bare (omega arith) (omega arith))
           (λ z.
           let fits = at .fits in
-          full (n - 1) (omega arith) (omega arith) (x .moves .mark (p + (n - 1)) (MayMove.free (omega arith) (subst (Free X G) (let e : p + n ≡ p + (n - 1) + 1 = omega arith in e) f))))
+          full (n - 1) (omega arith) (omega arith) (x .moves .has (p + (n - 1)) (MayMove.free (omega arith) (subst (Free X G) (let e : p + n ≡ p + (n - 1) + 1 = omega arith in e) f))))
           (lt-or-le n 1))
           (lt-or-le n (b .upper))
       ends-length {n} (Ends.empty q low e v k) = ⊎-elim
@@ -110,7 +110,7 @@ module _ {X : ℕ → Block} {U p : ℕ} {b : Block} (at : Spot X U p b) where
             enough = omega arith;
             on = subst (λ (i : ℕ). Clear X G U i (q + 1)) (sym (run-end n h)) g;
           })))
-          (λ h. full k e (omega arith) (x .moves .mark (p + k) (MayMove.even q (record {
+          (λ h. full k e (omega arith) (x .moves .has (p + k) (MayMove.even q (record {
             reached = v;
             meets = here;
             on = subst (λ (i : ℕ). Clear X G U i (q + 1)) (let y : p + b .upper ≡ p + k + 1 = omega arith in y) g;
@@ -124,7 +124,7 @@ module _ {X : ℕ → Block} {U p : ℕ} {b : Block} (at : Spot X U p b) where
         within i h = let l = slot .so i h in let u = l .0 in let v = l .1 in (omega arith, omega arith)
 
         in-slot : (k : ℕ) → k < b .upper → Holds (S j) (p + k)
-        in-slot k l = slot .mark (p + k) (omega arith, omega arith)
+        in-slot k l = slot .has (p + k) (omega arith, omega arith)
 
         pub char-passes : (c : ℕ) → Holds (b .base) c → Holds (A j) c → Passes X G U p b c
         char-passes c h a = go (x .so j c jw a)
@@ -142,12 +142,12 @@ module _ {X : ℕ → Block} {U p : ℕ} {b : Block} (at : Spot X U p b) where
         own (Passes.stays k q l h v g r) = h
 
         pub passes-char : {c : ℕ} → c < 256 → Passes X G U p b c → Holds (A j) c
-        passes-char {c} u (Passes.free k l h f) = let fits = at .fits in x .mark j c jw (MayTake.free (p + k) (in-slot k l) (omega arith) u f)
-        passes-char {c} u (Passes.parts k q l h v g) = x .mark j c jw (MayTake.parts q (p + k) (in-slot k l) (record {
+        passes-char {c} u (Passes.free k l h f) = let fits = at .fits in x .has j c jw (MayTake.free (p + k) (in-slot k l) (omega arith) u f)
+        passes-char {c} u (Passes.parts k q l h v g) = x .has j c jw (MayTake.parts q (p + k) (in-slot k l) (record {
           reached = v;
           meets = record { shared = c; first = subst (λ (y : ℕ). Holds y c) (sym (slot-base k l)) h; second = g };
         }) g)
-        passes-char {c} u (Passes.stays k q l h v g r) = x .mark j c jw (MayTake.stays q (p + k) (in-slot k l) (record {
+        passes-char {c} u (Passes.stays k q l h v g r) = x .has j c jw (MayTake.stays q (p + k) (in-slot k l) (record {
           reached = v;
           meets = record { shared = c; first = subst (λ (y : ℕ). Holds y c) (sym (slot-base k l)) h; second = g };
           on = r;
@@ -157,7 +157,7 @@ module _ {X : ℕ → Block} {U p : ℕ} {b : Block} (at : Spot X U p b) where
         pub told-collected : {s : ℕ} {h : Block} → Ends X G U p b s → ((c : ℕ) → Holds (b .base) c → c < 256) → ToldBy (A j) quit moved p b h → Collected X G U p b h
         told-collected {h = h} a small t = record {
           held = λ c y. let d = both-exactly (b .base) (A j) (t .base) .so c y in char-passes c (d .0) (d .1);
-          all-held = λ c y. both-exactly (b .base) (A j) (t .base) .mark c (own y, passes-char (small c (own y)) y);
+          all-held = λ c y. both-exactly (b .base) (A j) (t .base) .has c (own y, passes-char (small c (own y)) y);
           shortest = length-ends a (t .shortest);
           not-shorter = λ n y. t .not-shorter n (ends-length y);
           longest = length-ends a (t .longest);

@@ -26,7 +26,7 @@ Limit X T h = (i q : ℕ) → Matches X T i q → q < h
 -- Of the positions where some text matches T so far, c has those from which some rest is on the right side.
 pub record Right (X : ℕ → Block) (G : Guide) (U q c : ℕ) : Type 0 where
   pub so : (i : ℕ) → Holds c i → Clear X G U i q
-  pub mark : (i : ℕ) → Even X G i q → Clear X G U i q → Holds c i
+  pub has : (i : ℕ) → Even X G i q → Clear X G U i q → Holds c i
 
 -- What the base at a position is to the guide at state q: it holds the next character of T; it holds one that parts from T;
 -- it does, or all is read and the text may end.
@@ -72,7 +72,7 @@ pub data Brings (X : ℕ → Block) (G : Guide) (U slot lo hi c : ℕ) : Type 0 
 -- The characters that the positions S j are brought, for each j below k.
 pub record Brought (X : ℕ → Block) (G : Guide) (U : ℕ) (S : ℕ → ℕ) (k lo hi : ℕ) (A : ℕ → ℕ) : Type 0 where
   pub so : (j c : ℕ) → j < k → Holds (A j) c → Brings X G U (S j) lo hi c
-  pub mark : (j c : ℕ) → j < k → Brings X G U (S j) lo hi c → Holds (A j) c
+  pub has : (j c : ℕ) → j < k → Brings X G U (S j) lo hi c → Holds (A j) c
 
 -- At any state, or once the text is on the right side already.
 pub data MayQuit (X : ℕ → Block) (G : Guide) (U i : ℕ) : Type 0 where
@@ -93,4 +93,4 @@ pub record Known (X : ℕ → Block) (G : Guide) (U : ℕ) (S : ℕ → ℕ) (k 
   pub quits : Exactly quit (MayQuit X G U)
   pub moves : Exactly moved (MayMove X G U)
   pub so : (j c : ℕ) → j < k → Holds (A j) c → MayTake X G U (S j) c
-  pub mark : (j c : ℕ) → j < k → MayTake X G U (S j) c → Holds (A j) c
+  pub has : (j c : ℕ) → j < k → MayTake X G U (S j) c → Holds (A j) c

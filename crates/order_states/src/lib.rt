@@ -1,10 +1,12 @@
 // The states of an order's second pass, from the last to the first: where texts on the right side end a run early, take a character, or part from the fixed text.
+use row_steps::Runs;
 use sets::Set;
 ghost use mathlib.Core.Path.{_≡_};
 ghost use Prim.Native.Nat.{_≤_};
 ghost use Rattle.sets.specs.Set.{setOf};
 ghost use Rattle.rows.specs.Row.{rowIn, rowCount};
-ghost use Rattle.rows.specs.Steps.{InTurn};
+ghost use Rattle.rows.specs.Steps.{InTurn, Together};
+ghost use Rattle.carries.specs.Climb.{Spans};
 ghost use Rattle.order_states.specs.States.{Joins, OneState, States};
 
 // Positions by what their base is to the guide at a state: it holds the next character, or one that parts from it, or all is read or it does.
@@ -49,13 +51,23 @@ pub fn joined(later: Gathered, earlier: Gathered) -> Gathered
 }
 
 // One state: the row of positions reached, and the positions from which some rest is on the right side at the next state.
-fn one_state(zones: &[u64], ends: &[u64], k: usize, s: Sorts, row: Set, clear: Set) -> Gathered
+fn one_state(
+    zones: &[u64],
+    ends: &[u64],
+    k: usize,
+    spans: &[u64],
+    runs: Runs,
+    s: Sorts,
+    row: Set,
+    clear: Set,
+) -> Gathered
     requires { ⌜ (k ≤ rowCount (now zones)) × (k ≤ rowCount (now ends)) ⌝ }
     requires { ⌜ InTurn (rowIn (now zones)) (rowIn (now ends)) k ⌝ }
+    requires { ⌜ Together (rowIn (now zones)) (rowIn (now ends)) k (setOf (runs .free)) (setOf (runs .stops)) × Spans (setOf (runs .free)) (now spans) ⌝ }
     ensures { λ r. ⌜ OneState (rowIn (now (zones .entry))) (rowIn (now (ends .entry))) k s (setOf row) (setOf clear) r ⌝ }
 {
     let stay = sets::both(sets::down(clear), s.same);
-    let c = row_steps::back(zones, ends, k, sets::either(s.over, stay));
+    let c = row_steps::back_by(zones, ends, k, spans, runs, sets::either(s.over, stay));
     let rests = c.row;
     Gathered {
         clear: rests,
@@ -70,6 +82,8 @@ pub fn states(
     zones: &[u64],
     ends: &[u64],
     k: usize,
+    spans: &[u64],
+    runs: Runs,
     rows: &[u64],
     s: Sorts,
     lo: usize,
@@ -78,6 +92,7 @@ pub fn states(
 ) -> Gathered
     requires { ⌜ (k ≤ rowCount (now zones)) × (k ≤ rowCount (now ends)) ⌝ }
     requires { ⌜ InTurn (rowIn (now zones)) (rowIn (now ends)) k ⌝ }
+    requires { ⌜ Together (rowIn (now zones)) (rowIn (now ends)) k (setOf (runs .free)) (setOf (runs .stops)) × Spans (setOf (runs .free)) (now spans) ⌝ }
     requires { ⌜ (lo ≤ hi) × (hi ≤ rowCount (now rows)) ⌝ }
     ensures { λ r. ⌜ States (rowIn (now (zones .entry))) (rowIn (now (ends .entry))) k (now (rows .entry)) s lo hi (setOf clear) r ⌝ }
 {
@@ -87,7 +102,16 @@ pub fn states(
         q -= 1;
         g = joined(
             g,
-            one_state(zones, ends, k, s, rows::row_at(rows, q), g.clear),
+            one_state(
+                zones,
+                ends,
+                k,
+                spans,
+                runs,
+                s,
+                rows::row_at(rows, q),
+                g.clear,
+            ),
         );
     }
     g

@@ -7,7 +7,7 @@ use lib.ListN.{getD, replicate}
 use Rattle.bases.specs.Base.{baseOf, Empty, Least}
 use Rattle.sets.specs.Set.{setOf, Exactly}
 use Rattle.rows.specs.Row.{rowIn}
-use Rattle.rows.specs.Steps.{Leads, Lands, Given}
+use Rattle.rows.specs.Steps.{Given}
 use Rattle.order_rows.proofs.Known.{known-even, known-free}
 use Rattle.order_states.specs.declared.Gathered.{Gathered}
 use Rattle.order_texts.specs.Freed.{Freed}
@@ -28,10 +28,10 @@ blank-row w n j e = ap (λ (v : List ℕ). rowIn v j) e ∙ words
 
 -- ---- where no text parts, and where the first that does is at f
 
-pub freed-none : {z e s : List ℕ} {k u : ℕ} {g : Gathered} {chars : List ℕ} → Empty (setOf (g .parted)) → Freed z e s k u g chars chars (setOf (g .quit)) (setOf (g .moved))
-freed-none n = record { holds = λ X G zones bound t. known-even (t .pass) (t .limit) (t .brought) n }
+pub freed-none : {s : List ℕ} {k u free : ℕ} {g : Gathered} {chars : List ℕ} → Empty (setOf (g .parted)) → Freed s k u free g chars chars (setOf (g .quit)) (setOf (g .moved))
+freed-none n = record { holds = λ X G Z E zones all t. known-even (t .pass) (t .limit) (t .brought) n }
 
-pub freed-from : {z e s : List ℕ} {k u f d below r t a h quit moved all : ℕ} {g : Gathered} {chars chars′ : List ℕ} → Least (setOf (g .parted)) f → Exactly d (λ i. (f + 1 ≤ i) × (i < u + 1))
-    → Exactly below (λ i. i < u + 1) → Exactly r (Leads (rowIn z) (rowIn e) k below) → Exactly t (Lands (rowIn z) (rowIn e) k r) → a ≡ bitAnd d t → quit ≡ bitOr (setOf (g .quit)) a
-    → h ≡ d / 2 → moved ≡ bitOr (setOf (g .moved)) h → Exactly all (λ c. c < 256) → Given (rowIn s) k d all (rowIn chars) (rowIn chars′) → Freed z e s k u g chars chars′ quit moved
-freed-from first x y w o ea eq eh em xa v = record { holds = λ X G zones bound t. known-free (t .pass) (t .limit) (t .brought) first x zones bound y w o ea eq eh em xa v }
+pub freed-from : {s : List ℕ} {k u f d free a h quit moved all : ℕ} {g : Gathered} {chars chars′ : List ℕ} → Least (setOf (g .parted)) f → Exactly d (λ i. (f + 1 ≤ i) × (i < u + 1))
+    → a ≡ bitAnd d free → quit ≡ bitOr (setOf (g .quit)) a
+    → h ≡ d / 2 → moved ≡ bitOr (setOf (g .moved)) h → Exactly all (λ c. c < 256) → Given (rowIn s) k d all (rowIn chars) (rowIn chars′) → Freed s k u free g chars chars′ quit moved
+freed-from first x ea eq eh em xa v = record { holds = λ X G Z E zones all t. known-free (t .pass) (t .limit) (t .brought) first x zones all ea eq eh em xa v }

@@ -5,7 +5,7 @@ use Prim.Native.Nat.{ℕ, _/_, _^_, _≤_, _<_}
 use native.Mathlib.Omega.{arith}
 use lib.ListN.{length, getD, take}
 use Rattle.bases.specs.Base.{Holds}
-use Rattle.sets.specs.Set.{setOf}
+use Rattle.sets.specs.Set.{setOf, Exactly}
 use Rattle.sets.proofs.Exact.{held-under}
 use Rattle.shapes.specs.All.{All}
 use Rattle.shapes.specs.Shape.{Block, Small, noBlock, total}
@@ -16,6 +16,7 @@ use Rattle.hulls.specs.Hull.{None}
 use Rattle.rests.specs.Walk.{slotAt, stay, Bounded}
 use Rattle.rests.proofs.Laid.{slots, bounded}
 use Rattle.rows.specs.Row.{rowIn}
+use Rattle.rows.specs.Steps.{AnyOf}
 use Rattle.row_blocks.specs.Blocks.{LengthBy, SomeLength, ToldBy, ToldTo}
 use Rattle.row_blocks.proofs.Out.{narrowed, narrowed-size, narrowed-at, narrowed-out}
 use Rattle.order_sides.specs.Guide.{Guide, Kept, Clear}
@@ -36,16 +37,16 @@ module _ {x z e s : List ℕ} (l : Laid x z e s) {u : ℕ} (size : u ≡ total (
   -- the first row tells whether some text is on the right side
   pub none-right : (Holds (setOf (g .clear)) 0 → ⊥) → None (Kept G) (shapeOf x)
   none-right n = side-none (shapeOf x) (slots (shapeOf x)) (bounded (shapeOf x)) G
-      (λ c. n (t .pass .rests .mark 0 (stay refl refl) (subst (λ (n : ℕ). Clear (slotAt (shapeOf x)) G n 0 0) (sym size) c)))
+      (λ c. n (t .pass .rests .has 0 (stay refl refl) (subst (λ (n : ℕ). Clear (slotAt (shapeOf x)) G n 0 0) (sym size) c)))
 
   module _ (first : Holds (setOf (g .clear)) 0) where
     clear : Clear (slotAt (shapeOf x)) G (total (shapeOf x)) 0 0
     clear = subst (λ (n : ℕ). Clear (slotAt (shapeOf x)) G n 0 0) size (t .pass .rests .so 0 first)
 
-    module _ {chars′ : List ℕ} {quit moved : ℕ} (f : Freed z e s k u g chars chars′ quit moved) where
+    module _ {free : ℕ} (all : Exactly free (AnyOf (rowIn z) k)) {chars′ : List ℕ} {quit moved : ℕ} (f : Freed s k u free g chars chars′ quit moved) where
       known : Known (slotAt (shapeOf x)) G (total (shapeOf x)) (rowIn s) k quit moved (rowIn chars′)
       known = subst (λ (n : ℕ). Known (slotAt (shapeOf x)) G n (rowIn s) k quit moved (rowIn chars′)) size
-          (f .holds (slotAt (shapeOf x)) G (laid-zones l blocks) (subst (Bounded (slotAt (shapeOf x))) (sym size) (bounded (shapeOf x))) t)
+          (f .holds (slotAt (shapeOf x)) G (rowIn z) (rowIn e) (laid-zones l blocks) all t)
 
       spot-at : (i : ℕ) → i < length (shapeOf x) → Spot (slotAt (shapeOf x)) (total (shapeOf x)) (total (take i (shapeOf x))) (getD (shapeOf x) i noBlock)
       spot-at i h = spot (shapeOf x) (slots (shapeOf x)) (bounded (shapeOf x)) (l .whole .sound) i h

@@ -8,8 +8,7 @@ ghost use lib.ListN.{length, take};
 ghost use Rattle.sets.specs.Set.{setOf};
 ghost use Rattle.shapes.specs.Shape.{textOf, total, blockCount};
 ghost use Rattle.shapes.specs.Lent.{Whole, shapeOf};
-ghost use Rattle.rows.specs.Row.{rowIn, rowCount};
-ghost use Rattle.rows.specs.Steps.{InTurn};
+ghost use Rattle.rows.specs.Row.{rowCount};
 ghost use Rattle.order_sides.specs.Guide.{Kept};
 ghost use Rattle.order_guides.specs.Sides.{Side};
 ghost use Rattle.order_guides.specs.Guide.{Plain, guideOf};
@@ -23,20 +22,11 @@ struct Places {
     moved: Set,
 }
 
-// What was gathered, and all that is free after the first position where a text parts.
-fn freed(
-    zones: &[u64],
-    ends: &[u64],
-    slots: &[u64],
-    k: usize,
-    u: usize,
-    g: Gathered,
-    chars: &mut [u64],
-) -> Places
-    requires { ⌜ (k ≤ rowCount (now zones)) × (k ≤ rowCount (now ends)) × (k ≤ rowCount (now slots)) × (k ≤ rowCount (now chars)) ⌝ }
-    requires { ⌜ InTurn (rowIn (now zones)) (rowIn (now ends)) k ⌝ }
+// What was gathered, and all that is free after the first position where a text parts. A run may end at the positions of `may_end`.
+fn freed(slots: &[u64], k: usize, u: usize, may_end: Set, g: Gathered, chars: &mut [u64]) -> Places
+    requires { ⌜ (k ≤ rowCount (now slots)) × (k ≤ rowCount (now chars)) ⌝ }
     requires { ⌜ u ≤ 250 ⌝ }
-    ensures { λ r. ⌜ Freed (now (zones .entry)) (now (ends .entry)) (now (slots .entry)) k u g (now (chars .entry)) (now (chars .exit)) (setOf (r .quit)) (setOf (r .moved)) ⌝ }
+    ensures { λ r. ⌜ Freed (now (slots .entry)) k u (setOf «may_end») g (now (chars .entry)) (now (chars .exit)) (setOf (r .quit)) (setOf (r .moved)) ⌝ }
     ensures { λ _. ⌜ length (now (chars .exit)) ≡ length (now (chars .entry)) ⌝ }
 {
     let quit = g.quit;
@@ -48,10 +38,9 @@ fn freed(
         };
     }
     let free = sets::between(sets::first(g.parted) + 1, u + 1);
-    let all = row_steps::back(zones, ends, k, sets::below(u + 1));
     row_steps::give(free, sets::below(256), slots, chars, k);
     Places {
-        quit: sets::either(quit, sets::both(free, all.quit)),
+        quit: sets::either(quit, sets::both(free, may_end)),
         moved: sets::either(moved, sets::down(free)),
     }
 }
@@ -76,6 +65,10 @@ fn narrow_laid(
 {
     let mut rows = rows::blank_table();
     let n = order_forth::forth(x, zones, ends, slots, text, m, &mut rows);
+    let k = x.len() / shapes::SIZE;
+    let runs = row_steps::all_runs(zones, ends, k);
+    let mut room = [0u64; 32];
+    let words = carries::spans(runs.free, &mut room);
     let mut chars = rows::blank();
     let g = order_back::gather(
         d,
@@ -84,6 +77,8 @@ fn narrow_laid(
         zones,
         ends,
         slots,
+        &room[..words],
+        runs,
         u,
         text,
         m,
@@ -94,7 +89,7 @@ fn narrow_laid(
     if !sets::has(g.clear, 0) {
         return false;
     }
-    let p = freed(zones, ends, slots, x.len() / shapes::SIZE, u, g, &mut chars);
+    let p = freed(slots, k, u, runs.free, g, &mut chars);
     row_blocks::narrow_blocks(x, &chars, p.quit, p.moved, out);
     true
 }

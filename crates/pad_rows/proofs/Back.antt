@@ -27,7 +27,7 @@ added : (s t : ℕ) {n : ℕ} {P : ℕ → Type 0} → n ≡ bitOr s t → ((q :
 added s t e f g = exactly-as (λ q. ⊎-elim inl (λ h. inr (f q h))) (λ q. ⊎-elim inl (λ h. inr (g q h))) (either-exactly s t e)
 
 as-it-was : {s : ℕ} {P : ℕ → Type 0} → ((q : ℕ) → P q → ⊥) → Exactly s (λ q. Holds s q ⊎ P q)
-as-it-was n = record { so = λ q h. inl h; mark = λ q. ⊎-elim (λ h. h) (λ h. absurd (n q h)) }
+as-it-was n = record { so = λ q h. inl h; has = λ q. ⊎-elim (λ h. h) (λ h. absurd (n q h)) }
 
 module _ {zone end slot : ℕ} {padded : Bool} {t : Tail} where
   -- the block's end is not in the row
@@ -111,7 +111,7 @@ module _ {Y : ℕ → Block} {pad W : ℕ} where
     leads m = along-from (k .end-is .so (m .shared) (m .second)) (x .row-is .so (m .shared) (m .first) .1)
 
     led : Along Y pad W (p + b .upper) → Meets (setOf (t .row)) end
-    led a = record { shared = p + b .upper; first = x .row-is .mark (p + b .upper) (omega arith, a); second = k .end-is .mark (p + b .upper) refl }
+    led a = record { shared = p + b .upper; first = x .row-is .has (p + b .upper) (omega arith, a); second = k .end-is .has (p + b .upper) refl }
 
     -- what reads to the block's end
     through-along : (q : ℕ) → Through zone slot padded q → (p ≤ q) × Along Y pad (p + b .upper) q
@@ -120,10 +120,10 @@ module _ {Y : ℕ → Block} {pad W : ℕ} where
 
     along-through : (q : ℕ) → p ≤ q → q < p + b .upper → Along Y pad (p + b .upper) q → Through zone slot padded q
     along-through q l g a = ⊎-elim
-        (λ y. taken y (k .slot-is .mark q (l, g)))
+        (λ y. taken y (k .slot-is .has q (l, g)))
         (λ y. ⊎-elim
         (λ e. absurd (omega arith))
-        (⊎-elim (λ w. quit y (k .zone-is .mark q (w .0, g))) (λ m. absurd (k .told .not-so y m)))
+        (⊎-elim (λ w. quit y (k .zone-is .has q (w .0, g))) (λ m. absurd (k .told .not-so y m)))
         (first-step (k .at) (p + b .upper) q l g a))
         (true-or-false padded)
 
@@ -136,7 +136,7 @@ module _ {Y : ℕ → Block} {pad W : ℕ} where
           (λ h. let v = through-along q (h .1) in (v .0, along-then (v .1) (leads (h .0)))))
           (λ q h. ⊎-elim
           (λ g. let c = along-cross (edge-after (k .at)) (omega arith) fits (h .1) in inr (led (c .1), along-through q (h .0) g (c .0)))
-          (λ g. inl (x .row-is .mark q (omega arith, h .1)))
+          (λ g. inl (x .row-is .has q (omega arith, h .1)))
           (lt-or-le q (p + b .upper)))
           (z .row);
       quit-is = exactly-as
@@ -147,8 +147,8 @@ module _ {Y : ℕ → Block} {pad W : ℕ} where
           let l : p ≤ q = let g = w .0 in omega arith in
           (l, run-free (k .at) q (w .0) (w .1), along-from (sym (run-end (k .at) q l (w .1))) (leads (h .0)))))
           (λ q h. ⊎-elim
-          (λ g. inr (led (along-from (run-end (k .at) q (h .0) g) (h .2)), k .zone-is .mark q (free-run (k .at) q (h .0) g (h .1), g)))
-          (λ g. inl (x .quit-is .mark q (omega arith, h .1, h .2)))
+          (λ g. inr (led (along-from (run-end (k .at) q (h .0) g) (h .2)), k .zone-is .has q (free-run (k .at) q (h .0) g (h .1), g)))
+          (λ g. inl (x .quit-is .has q (omega arith, h .1, h .2)))
           (lt-or-le q (p + b .upper)))
           (z .quit);
       takes-is = exactly-as
@@ -164,9 +164,9 @@ module _ {Y : ℕ → Block} {pad W : ℕ} where
           (λ g. inr (
             led (along-cross (edge-after (k .at)) (omega arith) fits (along-from (next-at (k .at) q (h .0) g) (h .2)) .1),
             ⊎-elim (λ y. y) (λ y. absurd (k .told .not-so y (pad-block (k .at) q (h .0) g (h .1)))) (true-or-false padded),
-            k .slot-is .mark q (h .0, g),
+            k .slot-is .has q (h .0, g),
           ))
-          (λ g. inl (x .takes-is .mark q (omega arith, h .1, h .2)))
+          (λ g. inl (x .takes-is .has q (omega arith, h .1, h .2)))
           (lt-or-le q (p + b .upper)))
           (z .takes);
     }

@@ -22,12 +22,12 @@ module _ {zone end slot r within : ℕ} {padded : Bool} (shares : within ≡ bit
   -- the row is nowhere in the block
   pub over-apart : Empty within → Exactly r (Over zone end slot padded r)
   unfolding Empty
-  over-apart none = record { so = λ q h. kept h; mark = mark }
+  over-apart none = record { so = λ q h. kept h; has = has }
     where
-      mark : (q : ℕ) → Over zone end slot padded r q → Holds r q
-      mark q (kept h) = h
-      mark q (taken a y h i l o) = absurd (none a (both-exactly r slot shares .mark a (h, i)))
-      mark q (quit a y h i z e) = absurd (none a (both-exactly r slot shares .mark a (h, i)))
+      has : (q : ℕ) → Over zone end slot padded r q → Holds r q
+      has q (kept h) = h
+      has q (taken a y h i l o) = absurd (none a (both-exactly r slot shares .has a (h, i)))
+      has q (quit a y h i z e) = absurd (none a (both-exactly r slot shares .has a (h, i)))
 
   -- with padding: all from its first position there on
   pub over-taken : {first before block more n : ℕ} → padded ≡ true → Least within first → Exactly before (λ q. q < first) → block ≡ bitOr slot end
@@ -38,18 +38,18 @@ module _ {zone end slot r within : ℕ} {padded : Bool} (shares : within ≡ bit
         (λ u.
         let v = rest .so q u in
         let f = both-exactly r slot shares .so first (least .held) in
-        let l : first ≤ q = ⊎-elim (λ g. absurd (v .1 (low .mark q g))) (λ g. g) (lt-or-le q first) in
+        let l : first ≤ q = ⊎-elim (λ g. absurd (v .1 (low .has q g))) (λ g. g) (lt-or-le q first) in
         taken first is (f .0) (f .1) l (either-exactly slot end both .so q (v .0)))
         (either-exactly r more all .so q h);
-    mark = mark;
+    has = has;
   }
     where
-      mark : (q : ℕ) → Over zone end slot padded r q → Holds n q
-      mark q (kept h) = either-exactly r more all .mark q (inl h)
-      mark q (taken a y h i l o) =
-          let f = least .least a (both-exactly r slot shares .mark a (h, i)) in
-          either-exactly r more all .mark q (inr (rest .mark q (either-exactly slot end both .mark q o, λ g. let z = low .so q g in omega arith)))
-      mark q (quit a y h i z e) = absurd (true≢false (sym is ∙ y))
+      has : (q : ℕ) → Over zone end slot padded r q → Holds n q
+      has q (kept h) = either-exactly r more all .has q (inl h)
+      has q (taken a y h i l o) =
+          let f = least .least a (both-exactly r slot shares .has a (h, i)) in
+          either-exactly r more all .has q (inr (rest .has q (either-exactly slot end both .has q o, λ g. let z = low .so q g in omega arith)))
+      has q (quit a y h i z e) = absurd (true≢false (sym is ∙ y))
 
   -- without padding, where its run may end
   pub over-quit : {n : ℕ} → padded ≡ false → Meets within zone → n ≡ bitOr r end → Exactly n (Over zone end slot padded r)
@@ -58,22 +58,22 @@ module _ {zone end slot r within : ℕ} {padded : Bool} (shares : within ≡ bit
         kept
         (λ u. let f = both-exactly r slot shares .so (m .shared) (m .first) in quit (m .shared) not (f .0) (f .1) (m .second) u)
         (either-exactly r end all .so q h);
-    mark = mark;
+    has = has;
   }
     where
-      mark : (q : ℕ) → Over zone end slot padded r q → Holds n q
-      mark q (kept h) = either-exactly r end all .mark q (inl h)
-      mark q (taken a y h i l o) = absurd (true≢false (sym y ∙ not))
-      mark q (quit a y h i z e) = either-exactly r end all .mark q (inr e)
+      has : (q : ℕ) → Over zone end slot padded r q → Holds n q
+      has q (kept h) = either-exactly r end all .has q (inl h)
+      has q (taken a y h i l o) = absurd (true≢false (sym y ∙ not))
+      has q (quit a y h i z e) = either-exactly r end all .has q (inr e)
 
   -- without padding, where it may not
   pub over-not : padded ≡ false → (Meets within zone → ⊥) → Exactly r (Over zone end slot padded r)
-  over-not not apart = record { so = λ q h. kept h; mark = mark }
+  over-not not apart = record { so = λ q h. kept h; has = has }
     where
-      mark : (q : ℕ) → Over zone end slot padded r q → Holds r q
-      mark q (kept h) = h
-      mark q (taken a y h i l o) = absurd (true≢false (sym y ∙ not))
-      mark q (quit a y h i z e) = absurd (apart (record { shared = a; first = both-exactly r slot shares .mark a (h, i); second = z }))
+      has : (q : ℕ) → Over zone end slot padded r q → Holds r q
+      has q (kept h) = h
+      has q (taken a y h i l o) = absurd (true≢false (sym y ∙ not))
+      has q (quit a y h i z e) = absurd (apart (record { shared = a; first = both-exactly r slot shares .has a (h, i); second = z }))
 
 -- ---- what is reached up to a position
 
@@ -95,7 +95,7 @@ module _ {Y : ℕ → Block} {pad s : ℕ} where
   pub trail-none : {p : ℕ} → p ≡ 0 → Exactly s (Trailed Y pad s p)
   trail-none z = record {
     so = λ q h. inl h;
-    mark = λ q t. ⊎-elim
+    has = λ q t. ⊎-elim
         (λ h. h)
         (λ u. let l = u .0 in let o = along-on (u .1 .along) in subst (Holds s) (let e : u .1 .from ≡ q = omega arith in e) (u .1 .held))
         t;
@@ -117,43 +117,43 @@ module _ {Y : ℕ → Block} {pad s : ℕ} where
     -- from a position of the row in the block
     from-row : (a q : ℕ) → Holds r a → p ≤ a → a < q → q ≤ p + b .upper → Along Y pad q a → Over zone end slot padded r q
     from-row a q h l u g t = ⊎-elim
-        (λ y. taken a y h in-slot (omega arith) (⊎-elim (λ v. inl (k .slot-is .mark q (omega arith, v))) (λ v. inr (k .end-is .mark q (omega arith))) (lt-or-le q (p + b .upper))))
+        (λ y. taken a y h in-slot (omega arith) (⊎-elim (λ v. inl (k .slot-is .has q (omega arith, v))) (λ v. inr (k .end-is .has q (omega arith))) (lt-or-le q (p + b .upper))))
         (λ y. ⊎-elim
         (λ e. absurd (omega arith))
-        (⊎-elim (λ w. let f = w .1 in quit a y h in-slot (k .zone-is .mark a (w .0, omega arith)) (k .end-is .mark q (omega arith))) (λ m. absurd (k .told .not-so y m)))
+        (⊎-elim (λ w. let f = w .1 in quit a y h in-slot (k .zone-is .has a (w .0, omega arith)) (k .end-is .has q (omega arith))) (λ m. absurd (k .told .not-so y m)))
         (first-step (k .at) q a l (omega arith) t))
         (true-or-false padded)
       where
         in-slot : Holds slot a
-        in-slot = k .slot-is .mark a (l, omega arith)
+        in-slot = k .slot-is .has a (l, omega arith)
 
     -- what is reached within the block is reached from its start or from a position of s in it
     reached-over : (q : ℕ) → Trailed Y pad s (p + b .upper) q → Over zone end slot padded r q
-    reached-over q (inl h) = kept (x .mark q (inl h))
+    reached-over q (inl h) = kept (x .has q (inl h))
     reached-over q (inr (g, t)) = ⊎-elim
         (λ l. ⊎-elim
         (λ i. ⊎-elim
-        (λ e. kept (x .mark q (inl (subst (Holds s) e (t .held)))))
-        (λ n. from-row (t .from) q (x .mark (t .from) (inl (t .held))) (omega arith) (let o = along-on (t .along) in omega (arith, n)) g (t .along))
+        (λ e. kept (x .has q (inl (subst (Holds s) e (t .held)))))
+        (λ n. from-row (t .from) q (x .has (t .from) (inl (t .held))) (omega arith) (let o = along-on (t .along) in omega (arith, n)) g (t .along))
         (eq-or-ne (t .from) q))
         (λ i.
         let c = along-cross (k .at .edge) i (omega arith) (t .along) in
-        from-row p q (x .mark p (inr (omega arith, record { from = t .from; held = t .held; along = c .0 }))) (omega arith) l g (c .1))
+        from-row p q (x .has p (inr (omega arith, record { from = t .from; held = t .held; along = c .0 }))) (omega arith) l g (c .1))
         (lt-or-le p (t .from)))
-        (λ l. kept (x .mark q (inr (l, t))))
+        (λ l. kept (x .has q (inr (l, t))))
         (lt-or-le p q)
 
     -- one block more
     pub trail-more : {p′ r′ : ℕ} → p′ ≡ p + b .upper → Exactly r′ (Over zone end slot padded r) → Exactly r′ (Trailed Y pad s p′)
     trail-more {r′ = r′} e z =
-        subst (λ (n : ℕ). Exactly r′ (Trailed Y pad s n)) (sym e) (record { so = λ q h. over-reached q (z .so q h); mark = λ q t. z .mark q (reached-over q t) })
+        subst (λ (n : ℕ). Exactly r′ (Trailed Y pad s n)) (sym e) (record { so = λ q h. over-reached q (z .so q h); has = λ q t. z .has q (reached-over q t) })
 
   -- after the last block: nothing goes past the end
   pub trail-all : {W p r : ℕ} → Bare Y W → p ≡ W → Exactly r (Trailed Y pad s p) → Exactly r (Trails Y pad s)
   trail-all {W} k e x = record {
     so = λ q h. trails-of (x .so q h);
-    mark = λ q t. ⊎-elim
-        (λ l. x .mark q (inl (subst (Holds s) (along-past k q (t .from) l (t .along)) (t .held))))
-        (λ l. x .mark q (inr (omega arith, t)))
+    has = λ q t. ⊎-elim
+        (λ l. x .has q (inl (subst (Holds s) (along-past k q (t .from) l (t .along)) (t .held))))
+        (λ l. x .has q (inr (omega arith, t)))
         (lt-or-le W q);
   }

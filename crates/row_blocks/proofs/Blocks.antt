@@ -23,7 +23,7 @@ pub cut-small : (x y : ℕ) {n : ℕ} → n ≡ bitAnd x y → x < 2 ^ 128 → n
 cut-small x y d h = rw d (lt-of-le-of-lt (and-le-l x y) h)
 
 pub held-of : (s t : ℕ) {n : ℕ} {P : ℕ → Type 0} → n ≡ bitAnd s t → Exactly t P → Exactly n (λ q. Holds s q × P q)
-held-of s t d x = exactly-as (λ q h. (h .0, x .so q (h .1))) (λ q h. (h .0, x .mark q (h .1))) (both-exactly s t d)
+held-of s t d x = exactly-as (λ q h. (h .0, x .so q (h .1))) (λ q h. (h .0, x .has q (h .1))) (both-exactly s t d)
 
 pub any-at : {quit moved p q : ℕ} {b c : Block} → p ≡ q → b ≡ c → AnyLength quit moved q c → AnyLength quit moved p b
 any-at {quit} {moved} {p} {c = c} e d w =
@@ -34,7 +34,7 @@ module _ {quit moved p ends : ℕ} {b : Block} (x : Exactly ends (λ q. Holds qu
   -- where it never does, the full length is the only one
   only-full : Empty ends → (n : ℕ) → LengthBy quit moved p b n → n ≡ b .upper
   unfolding Empty
-  only-full none n (early l h) = absurd (none (p + n) (x .mark (p + n) (h, (omega arith, omega arith))))
+  only-full none n (early l h) = absurd (none (p + n) (x .has (p + n) (h, (omega arith, omega arith))))
   only-full none n (full k e f h) = f
   only-full none n (bare u e) = omega arith
 
@@ -46,7 +46,7 @@ module _ {quit moved p ends : ℕ} {b : Block} (x : Exactly ends (λ q. Holds qu
 
   module _ {f : ℕ} (l : Least ends f) where
     not-shorter : (n : ℕ) → LengthBy quit moved p b n → f - p ≤ n
-    not-shorter n (early s h) = let z = l .least (p + n) (x .mark (p + n) (h, (omega arith, omega arith))) in omega arith
+    not-shorter n (early s h) = let z = l .least (p + n) (x .has (p + n) (h, (omega arith, omega arith))) in omega arith
     not-shorter n (full k e g h) = let z = x .so f (l .held) .1 in omega arith
     not-shorter n (bare u e) = let z = x .so f (l .held) .1 in omega arith
 
@@ -58,7 +58,7 @@ module _ {quit moved p ends : ℕ} {b : Block} (x : Exactly ends (λ q. Holds qu
         full (b .upper - 1) (omega arith) refl (subst (Holds moved) at h)
 
     not-full : (Holds moved (p + b .upper - 1) → ⊥) → {g : ℕ} → Greatest ends g → (n : ℕ) → LengthBy quit moved p b n → n ≤ g - p
-    not-full m {g} t n (early s h) = let z = t .greatest (p + n) (x .mark (p + n) (h, (omega arith, omega arith))) in omega arith
+    not-full m {g} t n (early s h) = let z = t .greatest (p + n) (x .has (p + n) (h, (omega arith, omega arith))) in omega arith
     not-full m {g} t n (full k e d h) = let at : p + k ≡ p + b .upper - 1 = omega arith in absurd (m (subst (Holds moved) at h))
     not-full m {g} t n (bare u e) = let z = x .so f (l .held) .1 in omega arith
 

@@ -56,6 +56,14 @@ end-order (b ∷ s) zero (suc j) l h = omega arith
 end-order (b ∷ s) (suc i) zero l h = absurd (omega arith)
 end-order (b ∷ s) (suc i) (suc j) l h = let r = end-order s i j (omega arith) (omega arith) in omega arith
 
+-- a later block starts no earlier than one before it ends
+start-after : (s : List Block) (i j : ℕ) → i < j → j < length s → end s i ≤ start s j
+unfolding total
+start-after [] i j l h = absurd (omega arith)
+start-after (b ∷ s) i zero l h = absurd (omega arith)
+start-after (b ∷ s) zero (suc j) l h = omega arith
+start-after (b ∷ s) (suc i) (suc j) l h = let r = start-after s i j (omega arith) (omega arith) in omega arith
+
 -- ---- the rows, block by block
 
 pub lay-none : (S : List Block) (z e s : List ℕ) → LayTo S 0 z e s
@@ -124,14 +132,14 @@ slot-within S {q} {j} w =
 -- ---- the rows and the slots
 
 module _ {S : List Block} {z e s : List ℕ} (l : Lay S z e s) where
-  -- no zone reaches the end of its own block or of a later one
+  -- zones run up to their ends, and lie past the ends of the blocks before
   pub lay-in-turn : InTurn (rowIn z) (rowIn e) (length S)
   lay-in-turn = record {
-    apart = λ i j q o h g k.
-        let a = l .zone i (omega arith) .so q g in
-        let b = l .stop j h .so q k in
-        let c = end-order S i j o h in
-        omega arith;
+    first = λ j. start S j + getD S j noBlock .lower;
+    end = end S;
+    zone = l .zone;
+    stop = l .stop;
+    order = λ i j o h. let a = start-after S i j o h in (omega arith, end-order S i j (omega arith) h);
   }
 
   zone-within : (j q : ℕ) → j < length S → Holds (rowIn z j) q → Within S q j
@@ -154,7 +162,7 @@ module _ {S : List Block} {z e s : List ℕ} (l : Lay S z e s) where
       let w = zone-within j q h g in
       let a = l .zone j h .so q g in
       let u : slotAt S q .lower ≡ getD S j noBlock .lower - (q - start S j) = ap (λ (b : Block). b .lower) (slot-within S w) in
-      (omega arith, l .stop j h .mark (q + slotAt S q .upper) (run-end w))
+      (omega arith, l .stop j h .has (q + slotAt S q .upper) (run-end w))
 
   -- a run that may end is in a zone
   pub run-zone : (q : ℕ) → slotAt S q .lower ≡ 0 → (j : ℕ) × (j < length S) × Holds (rowIn z j) q × Holds (rowIn e j) (q + slotAt S q .upper)
@@ -166,7 +174,7 @@ module _ {S : List Block} {z e s : List ℕ} (l : Lay S z e s) where
       let from = w .from in
       let before = w .before in
       let u : slotAt S q .lower ≡ getD S j noBlock .lower - (q - start S j) = ap (λ (c : Block). c .lower) (slot-within S w) in
-      (j, w .below, l .zone j (w .below) .mark q (omega arith, before), l .stop j (w .below) .mark (q + slotAt S q .upper) (run-end w)))
+      (j, w .below, l .zone j (w .below) .has q (omega arith, before), l .stop j (w .below) .has (q + slotAt S q .upper) (run-end w)))
       (λ h. let z : _≡_ {A = ℕ} 1 0 = sym (ap (λ (c : Block). c .lower) (past-all S q h)) ∙ d in absurd (omega arith))
       (lt-or-le q (total S))
 
@@ -180,7 +188,7 @@ module _ {S : List Block} {z e s : List ℕ} (l : Lay S z e s) where
   pub in-slot : (q c : ℕ) → Holds (slotAt S q .base) c → (j : ℕ) × (j < length S) × Holds (rowIn s j) q
   unfolding Empty
   in-slot q c g = ⊎-elim
-      (λ h. let b = block-of S q h in let w = b .1 in (b .0, w .below, l .slot (b .0) (w .below) .mark q (w .from, w .before)))
+      (λ h. let b = block-of S q h in let w = b .1 in (b .0, w .below, l .slot (b .0) (w .below) .has q (w .from, w .before)))
       (λ h. absurd (none-in-zero c (subst (λ (b : Block). Holds (b .base) c) (past-all S q h) g)))
       (lt-or-le q (total S))
 

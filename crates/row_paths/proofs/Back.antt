@@ -45,7 +45,7 @@ module _ {X Y : ℕ → Block} {U W : ℕ} {Z E : ℕ → ℕ} {k : ℕ} (z : Zo
       from : (j : ℕ) → Quits Y X W U j i → Holds f j × Holds cut j
       from j q =
           let r = z .find j (q .free) in
-          (g .mark j (turn-pad (q .reached)), y .mark j (record { number = r .0; below = r .1; from = r .2; to = record { shared = _; first = r .3; second = x .mark _ (turn-pad (q .on)) } }))
+          (g .has j (turn-pad (q .reached)), y .has j (record { number = r .0; below = r .1; from = r .2; to = record { shared = _; first = r .3; second = x .has _ (turn-pad (q .on)) } }))
 
 -- ---- one more row: what has P at i, or P from i + 1 on, has it from i on
 
@@ -59,7 +59,7 @@ pub quit-more : {X Y : ℕ → Block} {U W i : ℕ} (s t : ℕ) {u : ℕ} → u 
     → Exactly u (λ j. From i (λ h. Quits Y X W U j h))
 quit-more {X} {Y} {U} {W} {i} s t e x y = exactly-as
     (λ j h. from-more (⊎-elim (λ a. inr (x .so j a)) (λ a. inl (y .so j a)) h))
-    (λ j f. ⊎-elim (λ a. inr (y .mark j a)) (λ a. inl (x .mark j a)) (from-less (λ h. Quits Y X W U j h) f))
+    (λ j f. ⊎-elim (λ a. inr (y .has j a)) (λ a. inl (x .has j a)) (from-less (λ h. Quits Y X W U j h) f))
     (either-exactly s t e)
 
 -- a number is added where something is seen at it
@@ -76,7 +76,7 @@ seen-more P i s u {A} f g x y = exactly-as to from x
     from : (h : ℕ) → Seen i P h → Holds s h ⊎ (A × (h ≡ i))
     from h v = ⊎-elim
         (λ e. inr (g (v .other) (subst (λ (x : ℕ). P x (v .other)) e (v .has)), e))
-        (λ n. let l = v .from in inl (y .mark h (record { from = omega (arith, n); other = v .other; has = v .has })))
+        (λ n. let l = v .from in inl (y .has h (record { from = omega (arith, n); other = v .other; has = v .has })))
         (eq-or-ne h i)
 
 -- ---- one row of a block
@@ -102,9 +102,9 @@ shared-into {Y} {base} row on waits d a w y e f g h = exactly-as to from (either
     from j n = ⊎-elim
         (λ none.
         let stays : Y j .upper ≡ 0 = omega arith in
-        inr (both-exactly row waits g .mark j (subst (Holds row) (after-stays Y j stays) (n .lands), y .stays .mark j (n .meets, stays))))
+        inr (both-exactly row waits g .has j (subst (Holds row) (after-stays Y j stays) (n .lands), y .stays .has j (n .meets, stays))))
         (λ room.
-        inl (both-exactly d on f .mark j (down-exactly row e .mark j (subst (Holds row) (after-on Y j room) (n .lands)), y .goes .mark j (n .meets, room))))
+        inl (both-exactly d on f .has j (down-exactly row e .has j (subst (Holds row) (after-on Y j room) (n .lands)), y .goes .has j (n .meets, room))))
         (lt-or-le (Y j .upper) 1)
 
 pub inwards : (row on waits d a w : ℕ) {r : ℕ} → d ≡ row / 2 → a ≡ bitAnd d on → w ≡ bitAnd row waits → r ≡ bitOr a w → Inwards row on waits r
@@ -114,7 +114,7 @@ inwards row on waits d a w e f g h = record { holds = λ Y base y. shared-into r
 pub inwards-plain : {Y : ℕ → Block} {base : ℕ} → Roomy Y → (row on d : ℕ) {r : ℕ} → Exactly on (λ q. Meets base (Y q .base)) → d ≡ row / 2 → r ≡ bitAnd d on → Exactly r (Into Y base row)
 inwards-plain {Y} y row on d x e f = exactly-as
     (λ j h. let m = x .so j (h .1) in record { meets = m; lands = subst (Holds row) (sym (after-on Y j (y .has j (m .shared) (m .second)))) (down-exactly row e .so j (h .0)) })
-    (λ j n. let m = n .meets in (down-exactly row e .mark j (subst (Holds row) (after-on Y j (y .has j (m .shared) (m .second))) (n .lands)), x .mark j m))
+    (λ j n. let m = n .meets in (down-exactly row e .has j (subst (Holds row) (after-on Y j (y .has j (m .shared) (m .second))) (n .lands)), x .has j m))
     (both-exactly d on f)
 
 module _ {X Y : ℕ → Block} {U W p : ℕ} {b : Block} (k : BlockIn X p b) (fits : p + b .upper ≤ U) (o : ℕ) (small : o < b .upper) where
@@ -123,7 +123,7 @@ module _ {X Y : ℕ → Block} {U W p : ℕ} {b : Block} (k : BlockIn X p b) (fi
       → Exactly t (λ j. Meets (X (p + o) .base) (Y j .base) × PadPath X Y U W (after X (p + o)) (after Y j))
   taken-row next x y = exactly-as
       (λ j h. (subst (λ (a : ℕ). Meets a (Y j .base)) (sym (slot-base k o small)) (h .meets), subst (λ (i : ℕ). PadPath X Y U W i (after Y j)) (block-on k o small) (x .so (after Y j) (h .lands))))
-      (λ j h. record { meets = subst (λ (a : ℕ). Meets a (Y j .base)) (slot-base k o small) (h .0); lands = x .mark (after Y j) (subst (λ (i : ℕ). PadPath X Y U W i (after Y j)) (sym (block-on k o small)) (h .1)) })
+      (λ j h. record { meets = subst (λ (a : ℕ). Meets a (Y j .base)) (slot-base k o small) (h .0); lands = x .has (after Y j) (subst (λ (i : ℕ). PadPath X Y U W i (after Y j)) (sym (block-on k o small)) (h .1)) })
       y
 
   -- the run may end there
@@ -142,8 +142,8 @@ module _ {X Y : ℕ → Block} {U W p : ℕ} {b : Block} (k : BlockIn X p b) (fi
 
       from : (j : ℕ) → LeadsOn X Y U W (p + o) j → Holds t j ⊎ Holds stop j
       from j (end i f) = absurd (omega arith)
-      from j (ended g w) = inr (y .mark j (subst (λ (i : ℕ). PadPath X Y U W i j) (sym at) w))
-      from j (taken m w) = inl (x .mark j (m, w))
+      from j (ended g w) = inr (y .has j (subst (λ (i : ℕ). PadPath X Y U W i j) (sym at) w))
+      from j (taken m w) = inl (x .has j (m, w))
 
   -- it may not
   pub leaves-bound : {t : ℕ} → o < b .lower → Exactly t (λ j. Meets (X (p + o) .base) (Y j .base) × PadPath X Y U W (after X (p + o)) (after Y j)) → Exactly t (LeadsOn X Y U W (p + o))
@@ -159,7 +159,7 @@ pub takes-here : {X Y : ℕ → Block} {U W i : ℕ} (f t : ℕ) {u : ℕ} → E
     → Exactly u (λ j. Takes X Y U W i j)
 takes-here f t x y e = exactly-as
     (λ j h. let w = y .so j (h .1) in record { reached = x .so j (h .0); meets = w .0; on = w .1 })
-    (λ j k. (x .mark j (k .reached), y .mark j (k .meets, k .on)))
+    (λ j k. (x .has j (k .reached), y .has j (k .meets, k .on)))
     (both-exactly f t e)
 
 pub used-more : {X Y : ℕ → Block} {U W i e : ℕ} (s t : ℕ) {u : ℕ} → i < e → u ≡ bitOr s t → Exactly s (Used X Y U W (i + 1) e) → Exactly t (λ j. Takes X Y U W i j) → Exactly u (Used X Y U W i e)
@@ -173,8 +173,8 @@ used-more {X} {Y} {U} {W} {i} {e} s t l d x y = exactly-as to from (either-exact
 
     from : (j : ℕ) → Used X Y U W i e j → Holds s j ⊎ Holds t j
     from j v = ⊎-elim
-        (λ c. inr (y .mark j (subst (λ (x : ℕ). Takes X Y U W x j) (sym c) (v .takes))))
-        (λ c. let g = v .from in inl (x .mark j (record { number = v .number; from = omega (arith, c); before = v .before; takes = v .takes })))
+        (λ c. inr (y .has j (subst (λ (x : ℕ). Takes X Y U W x j) (sym c) (v .takes))))
+        (λ c. let g = v .from in inl (x .has j (record { number = v .number; from = omega (arith, c); before = v .before; takes = v .takes })))
         (eq-or-ne i (v .number))
 
 -- the row there: closed under the ends of runs of Y
@@ -211,7 +211,7 @@ some-taken here bare tb x e =
     (s .0, x .so (s .0) (s .1))
 
 pub none-taken : (here : ℕ) (bare : Bool) {P : ℕ → Type 0} → Tells bare (Empty here) → Exactly here P → (q : ℕ) → P q → not bare ≡ true
-none-taken here bare tb x q w = false-not bare (λ e. unfold Empty in (tb .so e q (x .mark q w)))
+none-taken here bare tb x q w = false-not bare (λ e. unfold Empty in (tb .so e q (x .has q w)))
 
 module _ {X Y : ℕ → Block} {U W : ℕ} {Z E : ℕ → ℕ} {m p : ℕ} {b : Block} (z : Zones Y Z E m) (k : BlockIn X p b) (fits : p + b .upper ≤ U) where
   pub gathered-more : (o f stop next step here seeds row cut early-cut used quit own-quit own-moved : ℕ) {used′ quit′ own-quit′ own-moved′ : ℕ} (early bare : Bool) → o < b .upper
@@ -254,7 +254,7 @@ module _ {X Y : ℕ → Block} {U W : ℕ} {Z E : ℕ → ℕ} {m p : ℕ} {b : 
       ends-back q w =
           let a = slot-lower k o small in
           let l = w .free in
-          (le-leb (b .lower) o (omega arith), record { shared = q; first = x .mark q (w .reached); second = y .mark q (subst (λ (i : ℕ). PadPath X Y U W i q) (sym at) (w .on)) })
+          (le-leb (b .lower) o (omega arith), record { shared = q; first = x .has q (w .reached); second = y .has q (subst (λ (i : ℕ). PadPath X Y U W i q) (sym at) (w .on)) })
 
 -- ---- before the last row, and at a block's start
 

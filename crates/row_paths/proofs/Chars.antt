@@ -32,7 +32,7 @@ pub record PaddedRows (Y : ℕ → Block) (B S : ℕ → ℕ) (k pad W : ℕ) : 
 -- a set that is added where it counts
 added : {c : ℕ} (m pad : ℕ) {P : Type 0} {r : Bool} → Tells r P → (r ≡ true → c ≡ bitOr m pad) → (r ≡ false → c ≡ m) → Exactly c (λ x. Holds m x ⊎ (P × Holds pad x))
 added m pad {r = true} t f g = exactly-as (λ x h. ⊎-elim inl (λ a. inr (t .so refl, a)) h) (λ x h. ⊎-elim inl (λ a. inr (a .1)) h) (either-exactly m pad (f refl))
-added m pad {r = false} t f g = exactly-at (g refl) (record { so = λ x h. inl h; mark = λ x h. ⊎-elim (λ a. a) (λ a. absurd (t .not-so refl (a .0))) h })
+added m pad {r = false} t f g = exactly-at (g refl) (record { so = λ x h. inl h; has = λ x h. ⊎-elim (λ a. a) (λ a. absurd (t .not-so refl (a .0))) h })
 
 module _ {X Y : ℕ → Block} {U W : ℕ} where
   -- the characters of the block that has used some positions of Y, its end among them
@@ -51,14 +51,14 @@ module _ {X Y : ℕ → Block} {U W : ℕ} where
 
       from : (c : ℕ) → Gives X Y U W i e 0 c → Holds m c ⊎ (Holds used W × Holds pad c)
       from c g = ⊎-elim
-          (λ f. inl (y .mark c (record {
+          (λ f. inl (y .has c (record {
             number = f .0;
             below = f .1;
-            meets = record { shared = g .other; first = x .mark (g .other) (g .used); second = f .2 };
+            meets = record { shared = g .other; first = x .has (g .other) (g .used); second = f .2 };
             held = subst (λ (v : ℕ). Holds v c) (s .base (f .0) (g .other) (f .1) (f .2)) (g .holds);
           })))
           (λ f. inr (
-            subst (Holds used) f (x .mark (g .other) (g .used)),
+            subst (Holds used) f (x .has (g .other) (g .used)),
             subst (λ (v : ℕ). Holds v c) (s .last) (subst (λ (q : ℕ). Holds (Y q .base) c) f (g .holds)),
           ))
           (s .find (g .other) c (g .holds))
@@ -66,7 +66,7 @@ module _ {X Y : ℕ → Block} {U W : ℕ} where
   -- what a block of Y is given by one more block of X, from p to e
   pub given-more : {S A A′ : ℕ → ℕ} {k used base p e : ℕ} (j st en : ℕ) → j < k → p ≤ e → Given S k used base A A′ → Exactly used (Used X Y U W p e) → ((h : ℕ) → p ≤ h → h < e → X h .base ≡ base)
       → Exactly (S j) (λ q. (st ≤ q) × (q < en)) → Exactly (A j) (Gives Y X W U st en e) → Exactly (A′ j) (Gives Y X W U st en p)
-  given-more {S} {A} {A′} {k} {used} {base} {p} {e} j st en l le g x b s y = record { so = so; mark = mark }
+  given-more {S} {A} {A′} {k} {used} {base} {p} {e} j st en l le g x b s y = record { so = so; has = has }
     where
       so : (c : ℕ) → Holds (A′ j) c → Gives Y X W U st en p c
       so c h = ⊎-elim
@@ -83,18 +83,18 @@ module _ {X Y : ℕ → Block} {U W : ℕ} where
           })
           (g .so j c l h)
 
-      mark : (c : ℕ) → Gives Y X W U st en p c → Holds (A′ j) c
-      mark c w = ⊎-elim
+      has : (c : ℕ) → Gives Y X W U st en p c → Holds (A′ j) c
+      has c w = ⊎-elim
           (λ h.
           let u = w .used in
           g .more j c l
           (record {
             shared = u .number;
-            first = x .mark (u .number) (record { number = w .other; from = w .past; before = h; takes = turn-takes (u .takes) });
-            second = s .mark (u .number) (u .from, u .before);
+            first = x .has (u .number) (record { number = w .other; from = w .past; before = h; takes = turn-takes (u .takes) });
+            second = s .has (u .number) (u .from, u .before);
           })
           (subst (λ (v : ℕ). Holds v c) (b (w .other) (w .past) h) (w .holds)))
-          (λ h. g .kept j c l (y .mark c (record { other = w .other; past = h; used = w .used; holds = w .holds })))
+          (λ h. g .kept j c l (y .has c (record { other = w .other; past = h; used = w .used; holds = w .holds })))
           (lt-or-le (w .other) e)
 
   pub moved-more : (s t : ℕ) {u p e : ℕ} → p ≤ e → u ≡ bitOr s t → Exactly s (λ j. From e (λ h. Takes Y X W U j h)) → Exactly t (Used X Y U W p e) → Exactly u (λ j. From p (λ h. Takes Y X W U j h))
@@ -108,8 +108,8 @@ module _ {X Y : ℕ → Block} {U W : ℕ} where
 
       from : (j : ℕ) → From p (λ h. Takes Y X W U j h) → Holds s j ⊎ Holds t j
       from j f = ⊎-elim
-          (λ l. inr (y .mark j (record { number = f .number; from = f .from; before = l; takes = turn-takes (f .has) })))
-          (λ l. inl (x .mark j (record { number = f .number; from = l; has = f .has })))
+          (λ l. inr (y .has j (record { number = f .number; from = f .from; before = l; takes = turn-takes (f .has) })))
+          (λ l. inl (x .has j (record { number = f .number; from = l; has = f .has })))
           (lt-or-le (f .number) e)
 
 -- ---- at the end of X, where it waits while Y goes on over padding
@@ -131,7 +131,7 @@ module _ {X Y : ℕ → Block} {U W pad : ℕ} (own : Ending X U) (padding : X U
         meets = subst (λ (v : ℕ). Meets v (Y j .base)) (sym padding) (w .0);
         on = subst (λ (i : ℕ). PadPath X Y U W i (after Y j)) (sym (after-stays X U (own .no-room))) (along-path own padding (w .1));
       })
-      (λ j k. (x .mark j (k .reached), y .mark j (subst (λ (v : ℕ). Meets v (Y j .base)) padding (k .meets), path-along own padding (k .on) (after-stays X U (own .no-room)))))
+      (λ j k. (x .has j (k .reached), y .has j (subst (λ (v : ℕ). Meets v (Y j .base)) padding (k .meets), path-along own padding (k .on) (after-stays X U (own .no-room)))))
       (both-exactly f t e)
 
   module _ (u : ℕ) (taken : Exactly u (λ j. Takes X Y U W U j)) where
@@ -152,7 +152,7 @@ module _ {X Y : ℕ → Block} {U W pad : ℕ} (own : Ending X U) (padding : X U
           (λ j h. let w = cu .so j (h .1) in record { number = U; from = omega arith; has = record { reached = turn-pad (y .so j (h .0)); free = w .0; on = turn-pad (along-path own padding (w .1)) } })
           (λ j q.
           let w : Quits Y X W U j U = subst (λ (h : ℕ). Quits Y X W U j h) (at-most-end own (q .from) (turn-pad (q .has .reached))) (q .has) in
-          (y .mark j (turn-pad (w .reached)), cu .mark j (w .free, path-along own padding (turn-pad (w .on)) refl)))
+          (y .has j (turn-pad (w .reached)), cu .has j (w .free, path-along own padding (turn-pad (w .on)) refl)))
           (both-exactly f cut e);
       own-quit-is = none-exactly zb (λ h v. let l = v .from in let g = free h (v .has .free) in omega arith);
       own-moved-is = seen-more (Takes X Y U W) U n c (some-taken u bare tb taken) (none-taken u bare tb taken) cx

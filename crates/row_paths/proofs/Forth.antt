@@ -91,15 +91,15 @@ module _ {X Y : ℕ → Block} {p : ℕ} {b : Block} (k : BlockIn X p b) where
       later z (start e f) = absurd (omega arith)
       later {j} z (ended h g e w) =
           let i = ends-here k h (b .upper) g e z (omega arith) in
-          inr (y .mark j (record { number = i .0; enough = i .4; before = i .2; reached = subst (λ (x : ℕ). PadPath X Y x j 0 0) (i .1) w }))
+          inr (y .has j (record { number = i .0; enough = i .4; before = i .2; reached = subst (λ (x : ℕ). PadPath X Y x j 0 0) (i .1) w }))
       later {j} z (taken h q e f r m w) =
           let o : ℕ = b .upper - 1 in
           let at : h ≡ p + o = omega arith in
-          inl (x .mark j (Comes.taken o q (omega arith) f (subst (λ (x : ℕ). Meets x (Y q .base)) (ap (λ (x : ℕ). X x .base) at ∙ slot-base k o (omega arith)) m) (subst (λ (x : ℕ). PadPath X Y x q 0 0) at w)))
+          inl (x .has j (Comes.taken o q (omega arith) f (subst (λ (x : ℕ). Meets x (Y q .base)) (ap (λ (x : ℕ). X x .base) at ∙ slot-base k o (omega arith)) m) (subst (λ (x : ℕ). PadPath X Y x q 0 0) at w)))
 
       from : (j : ℕ) → Entered X Y (p + b .upper) j → Holds s j ⊎ Holds t j
       from j n = ⊎-elim
-          (λ z. inl (x .mark j (Comes.first (omega arith) (subst (λ (x : ℕ). Entered X Y x j) (let y : p + b .upper ≡ p = omega arith in y) n))))
+          (λ z. inl (x .has j (Comes.first (omega arith) (subst (λ (x : ℕ). Entered X Y x j) (let y : p + b .upper ≡ p = omega arith in y) n))))
           (λ z. later z n)
           (lt-or-le (b .upper) 1)
 
@@ -129,10 +129,10 @@ shared-onto {Y} {base} row on waits v w {a} y e f g d = exactly-as to from (eith
         ⊎-elim
         (λ none.
         let stays : Y (n .from) .upper ≡ 0 = omega arith in
-        inr (subst (Holds w) (sym (n .next ∙ after-stays Y (n .from) stays)) (both-exactly row waits g .mark (n .from) (n .held, y .stays .mark (n .from) (m, stays)))))
+        inr (subst (Holds w) (sym (n .next ∙ after-stays Y (n .from) stays)) (both-exactly row waits g .has (n .from) (n .held, y .stays .has (n .from) (m, stays)))))
         (λ room.
         let next : j ≡ n .from + 1 = n .next ∙ after-on Y (n .from) room in
-        inl (up-exactly a 256 f .mark j (omega arith, record { number = n .from; held = both-exactly row on e .mark (n .from) (n .held, y .goes .mark (n .from) (m, room)); next = next })))
+        inl (up-exactly a 256 f .has j (omega arith, record { number = n .from; held = both-exactly row on e .has (n .from) (n .held, y .goes .has (n .from) (m, room)); next = next })))
         (lt-or-le (Y (n .from) .upper) 1)
 
 pub onwards : (row on waits v w : ℕ) {a r : ℕ} → a ≡ bitAnd row on → v ≡ a * 2 % 2 ^ 256 → w ≡ bitAnd row waits → r ≡ bitOr v w → Onwards row on waits r
@@ -158,7 +158,7 @@ module _ {X Y : ℕ → Block} {p : ℕ} {b : Block} where
       from j (Comes.first e n) = absurd (omega arith)
       from j (Comes.taken h l e f m w) =
           let at : p + h ≡ p + o = omega arith in
-          record { from = l; held = x .mark l (subst (λ (q : ℕ). PadPath X Y q l 0 0) at w); meets = m; next = f }
+          record { from = l; held = x .has l (subst (λ (q : ℕ). PadPath X Y q l 0 0) at w); meets = m; next = f }
 
   -- a row that counts, and one that does not
   pub between-more : (t r o : ℕ) {u : ℕ} → b .lower ≤ o → u ≡ bitOr t r → Exactly t (Stops X Y p b o) → Exactly r (λ j. PadPath X Y (p + o) j 0 0)
@@ -173,8 +173,8 @@ module _ {X Y : ℕ → Block} {p : ℕ} {b : Block} where
 
       from : (j : ℕ) → Stops X Y p b (o + 1) j → Holds t j ⊎ Holds r j
       from j w = ⊎-elim
-          (λ c. inl (x .mark j (record { number = w .number; enough = w .enough; before = c; reached = w .reached })))
-          (λ c. let z = w .before in inr (y .mark j (subst (λ (x : ℕ). PadPath X Y (p + x) j 0 0) (let g : w .number ≡ o = omega arith in g) (w .reached))))
+          (λ c. inl (x .has j (record { number = w .number; enough = w .enough; before = c; reached = w .reached })))
+          (λ c. let z = w .before in inr (y .has j (subst (λ (x : ℕ). PadPath X Y (p + x) j 0 0) (let g : w .number ≡ o = omega arith in g) (w .reached))))
           (lt-or-le (w .number) o)
 
   pub between-same : {t : ℕ} (o : ℕ) → o < b .lower → Exactly t (Stops X Y p b o) → Exactly t (Stops X Y p b (o + 1))

@@ -32,4 +32,4 @@ module _ {X Y : ℕ → Block} {U W : ℕ} where
         there (f j (subst (λ (x : ℕ). LeadsOn X Y U W x j) h (taken m (pad-from (sym e) (sym g) p))))
 
     pub left-row : {s r i : ℕ} → Exactly s (LeadsOn X Y U W i) → Exactly r (Leads Z E k s) → Exactly r (λ j. PadPath X Y U W i j)
-    left-row x y = record { so = λ j h. leads-path (x .so) (y .so j h); mark = λ j p. y .mark j (path-leads (x .mark) p refl) }
+    left-row x y = record { so = λ j h. leads-path (x .so) (y .so j h); has = λ j p. y .has j (path-leads (x .has) p refl) }

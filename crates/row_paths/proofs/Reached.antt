@@ -55,7 +55,7 @@ module _ {X Y : ℕ → Block} where
         (lt-or-le (X a .upper) 1)
 
     pub reached-row : {s r i : ℕ} → 0 < X i .upper → Exactly s (Entered X Y i) → Exactly r (Leads E Z k s) → Exactly r (λ j. PadPath X Y i j 0 0)
-    reached-row room x y = record { so = λ j h. leads-path (x .so) (y .so j h); mark = λ j p. y .mark j (led-leads room (x .mark) (led p) refl) }
+    reached-row room x y = record { so = λ j h. leads-path (x .so) (y .so j h); has = λ j p. y .has j (led-leads room (x .has) (led p) refl) }
 
 -- ---- the last row: X waits, and Y goes on alone over padding
 
@@ -87,7 +87,7 @@ module _ {X Y : ℕ → Block} {U pad : ℕ} (own : Ending X U) (padding : X U .
   pub reached-last : {s r : ℕ} → Exactly s (Entered X Y U) → Exactly r (λ j. (q : ℕ) × Holds s q × Along Y pad j q) → Exactly r (λ j. PadPath X Y U j 0 0)
   reached-last x y = record {
     so = λ j h. let t = y .so j h in pad-append (entered-path (x .so (t .0) (t .1))) (along-path (t .2));
-    mark = λ j p. y .mark j (led-along _ (x .mark) (led p) refl);
+    has = λ j p. y .has j (led-along _ (x .has) (led p) refl);
   }
 
   -- ---- and to the ends
@@ -101,7 +101,7 @@ module _ {X Y : ℕ → Block} {U pad : ℕ} (own : Ending X U) (padding : X U .
       (subst (Along Y pad W) f (path-along p (e ∙ ap (after X) h ∙ after-stays X U (own .no-room))))
 
   pub left-last : {W r : ℕ} → Exactly r (Along Y pad W) → Exactly r (λ j. PadPath X Y U W U j)
-  left-last x = record { so = λ j h. along-path (x .so j h); mark = λ j p. x .mark j (path-along p refl) }
+  left-last x = record { so = λ j h. along-path (x .so j h); has = λ j p. x .has j (path-along p refl) }
 
 -- ---- a path from the starts stays within the positions of Y
 

@@ -94,7 +94,7 @@ module _ {X Y : ℕ → Block} {U W p : ℕ} {b : Block} (k : BlockIn X p b) (or
       let zero : p + 0 ≡ p + n = omega arith in
       let free : X (p + n) .lower ≡ 0 = subst (λ (i : ℕ). X i .lower ≡ 0) zero (omega arith) in
       let end : p + b .upper ≡ p + n + X (p + n) .upper = subst (λ (i : ℕ). p + b .upper ≡ i + X i .upper) zero (omega arith) in
-      early (omega arith) (x .mark (p + n) (record {
+      early (omega arith) (x .has (p + n) (record {
         from = omega arith;
         other = j;
         has = record { reached = subst (λ (i : ℕ). PadPath X Y i j 0 0) at pre; free = free; on = subst (λ (i : ℕ). PadPath X Y U W i j) end post };
@@ -106,7 +106,7 @@ module _ {X Y : ℕ → Block} {U W p : ℕ} {b : Block} (k : BlockIn X p b) (or
       (λ c.
       let low′ = slot-lower k n c in
       let up = slot-upper k n c in
-      early c (x .mark (p + n) (record {
+      early c (x .has (p + n) (record {
         from = omega arith;
         other = after Y j;
         has = record {
@@ -115,7 +115,7 @@ module _ {X Y : ℕ → Block} {U W p : ℕ} {b : Block} (k : BlockIn X p b) (or
           on = subst (λ (z : ℕ). PadPath X Y U W z (after Y j)) (let g : p + b .upper ≡ p + n + X (p + n) .upper = omega arith in g) post;
         };
       })))
-      (λ c. full i e (omega arith) (y .mark (p + i) (record {
+      (λ c. full i e (omega arith) (y .has (p + i) (record {
         from = omega arith;
         other = j;
         has = record { reached = pre; meets = m′; on = subst (λ (z : ℕ). PadPath X Y U W z (after Y j)) ((let g : p + b .upper ≡ p + i + 1 = omega arith in g) ∙ block-on k i room) post };
@@ -160,7 +160,7 @@ module _ {X Y : ℕ → Block} {U W p : ℕ} {b : Block} (k : BlockIn X p b) (or
       → Ends X Y U W p b s → ToldBy chars quit moved p b h → Collected X Y U W p b h
   told-collected {chars} {h = h} g x y a t = record {
     held = λ c z. let w = bits.shared (b .base) chars c (subst (λ (v : ℕ). Holds v c) (t .base) z) in gives-passes c (w .0) (g .so c (w .1));
-    all-held = λ c z. subst (λ (v : ℕ). Holds v c) (sym (t .base)) (bits.both (b .base) chars c (z .own) (g .mark c (passes-gives c z)));
+    all-held = λ c z. subst (λ (v : ℕ). Holds v c) (sym (t .base)) (bits.both (b .base) chars c (z .own) (g .has c (passes-gives c z)));
     shortest = length-ends x y a (t .shortest);
     not-shorter = λ n z. t .not-shorter n (ends-length x y z);
     longest = length-ends x y a (t .longest);

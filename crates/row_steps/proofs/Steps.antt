@@ -1,6 +1,6 @@
 -- What a pass has done by now: a row closed under the steps done, and the sets that those picked. Assumes nothing.
 use mathlib.Core.Path.{_≡_, refl, sym, ap, _∙_, subst}
-use mathlib.Core.Bool.{Bool}
+use mathlib.Core.Bool.{Bool, true, false}
 use mathlib.Core.List.{List}
 use mathlib.Core.Logic.{_⊎_, inl, inr, ⊎-elim}
 use Prim.Native.Nat.{ℕ, _+_, _-_, _≤_, _<_}
@@ -46,6 +46,17 @@ added-where f g d = record {
 -- a test tells whether s meets b, by whatever stands for b
 pub tells-met : {on : Bool} {s a b : ℕ} → a ≡ b → Tells on (Meets s a) → Tells on (Meets s b)
 tells-met {on} {s} e t = subst (λ (x : ℕ). Tells on (Meets s x)) e t
+
+pub tells-met-word : {on : Bool} {w a b : ℕ} → a ≡ b → Tells on (Meets a w) → Tells on (Meets w b)
+tells-met-word e t = tells-met e (record { so = λ h. turned (t .so h); not-so = λ h m. t .not-so h (turned m) })
+  where
+    turned : {a b : ℕ} → Meets a b → Meets b a
+    turned m = record { shared = m .shared; first = m .second; second = m .first }
+
+-- a set added where a test says so
+pub added-with : {P : Type 0} (on : Bool) {s t u r : ℕ} → Tells on P → u ≡ t → (on ≡ true → r ≡ bitOr s u) → (on ≡ false → r ≡ s) → Added P s t r
+added-with true t e add keep = added-so (t .so refl) e (add refl)
+added-with false t e add keep = added-not (t .not-so refl) (keep refl)
 
 -- ---- which steps are done
 
@@ -94,8 +105,8 @@ picked-more {D} {D′} {P} {P′} {T} {j} {r} {r′} n to from x d = record {
       record { number = p .number; done = n .kept (p .number) (p .done); on = to (p .number) (p .done) (p .on); held = p .held })
       (λ u. record { number = j; done = n .more; on = u .0; held = u .1 })
       (d .so q h);
-  mark = λ q p. ⊎-elim
-      (λ i. d .kept q (x .mark q (record { number = p .number; done = i; on = from (p .number) i (p .on); held = p .held })))
+  has = λ q p. ⊎-elim
+      (λ i. d .kept q (x .has q (record { number = p .number; done = i; on = from (p .number) i (p .on); held = p .held })))
       (λ e. d .more q (subst P′ e (p .on)) (subst (λ (i : ℕ). Holds (T i) q) e (p .held)))
       (n .so (p .number) (p .done));
 }
@@ -144,7 +155,7 @@ module _ {A B : ℕ → ℕ} {k s : ℕ} {D : ℕ → Type 0} where
 
     -- all steps are done
     pub reached-all : Reached A B k s D r → Exactly r (Leads A B k s)
-    reached-all c = record { so = c .so; mark = reached-mark c }
+    reached-all c = record { so = c .so; has = reached-mark c }
 
 -- from where a step done leads into the row: one that is done meets the row as it did when it was
 landed-more : {A B : ℕ → ℕ} {D D′ : ℕ → Type 0} {j r r′ t t′ : ℕ} → Next D j D′ → ((i q : ℕ) → D′ i → Holds (A j) q → Holds (B i) q → ⊥)
@@ -156,18 +167,22 @@ landed-more {B = B} {j = j} n apart x d e = picked-more n
     x
     (added-where (meets-after (B j) d) (meets-before (B j) d (λ q. apart j q (n .more))) e)
 
--- ---- one step of a pass, up and down
+-- ---- one step of a pass down
+
+-- no zone reaches the end of its own step or of a later one
+in-turn-apart : {Z E : ℕ → ℕ} {k : ℕ} → InTurn Z E k → (i j q : ℕ) → i ≤ j → j < k → Holds (Z i) q → Holds (E j) q → ⊥
+in-turn-apart t i j q l h a b =
+    let z = t .zone i (omega arith) .so q a in
+    let e = t .stop j h .so q b in
+    ⊎-elim (λ c. let o = t .order i j c h in omega arith) (λ c. let same : i ≡ j = omega arith in let f = ap (t .end) same in omega arith) (lt-or-le i j)
 
 module _ {Z E : ℕ → ℕ} {k s j r r′ : ℕ} (turn : InTurn Z E k) where
-  pub forth-more : j < k → Reached E Z k s (Below j) r → Added (Meets r (Z j)) r (E j) r′ → Reached E Z k s (Below (j + 1)) r′
-  forth-more l = reached-more (next-up j) l (λ i q h a b. turn .apart i j q (omega arith) l b a)
-
   pub back-more : {t t′ : ℕ} → 0 < j → j ≤ k → Reached Z E k s (From j k) r → Exactly t (Picked (From j k) (λ i. Meets r (E i)) Z)
       → Added (Meets r (E (j - 1))) r (Z (j - 1)) r′ → Added (Meets r (E (j - 1))) t (Z (j - 1)) t′
       → Reached Z E k s (From (j - 1) k) r′ × Exactly t′ (Picked (From (j - 1) k) (λ i. Meets r′ (E i)) Z)
   back-more p l c x d e =
       let n = next-down j k p l in
-      let apart : (i q : ℕ) → From (j - 1) k i → Holds (Z (j - 1)) q → Holds (E i) q → ⊥ = λ i q h. turn .apart (j - 1) i q (h .0) (h .1) in
+      let apart : (i q : ℕ) → From (j - 1) k i → Holds (Z (j - 1)) q → Holds (E i) q → ⊥ = λ i q h. in-turn-apart turn (j - 1) i q (h .0) (h .1) in
       (reached-more n (omega arith) apart c d, landed-more n apart x d e)
 
 -- ---- what is picked in the end
@@ -205,6 +220,11 @@ giving-more {S} {s} {t} {w₀} {j = j} {u = u} g p d = record {
   ahead = λ i h. p .kept i (λ e. omega arith) ∙ g .ahead i (omega arith);
 }
 
+-- a row is set, as a test says
+pub giving-with : {S : ℕ → ℕ} {s t : ℕ} {w₀ w w′ : List ℕ} {j v u : ℕ} (on : Bool) → Giving S s t w₀ w j → Tells on (Meets s (S j))
+    → v ≡ rowIn w j → (on ≡ true → u ≡ bitOr v t) → (on ≡ false → u ≡ v) → PutRow w j u w′ → Giving S s t w₀ w′ (j + 1)
+giving-with {S} {s} {t} {w = w} {j = j} {u = u} on g tells e add keep p = giving-more g p (subst (λ (x : ℕ). Added (Meets s (S j)) x t u) e (added-with on tells refl add keep))
+
 -- a row is set, or none is
 pub giving-so : {S : ℕ → ℕ} {s t : ℕ} {w₀ w w′ w″ : List ℕ} {j v u : ℕ} → Giving S s t w₀ w j → Meets s (S j)
     → v ≡ rowIn w j → u ≡ bitOr v t → PutRow w j u w′ → w″ ≡ w′ → Giving S s t w₀ w″ (j + 1)
@@ -221,3 +241,11 @@ all-given e g = record {
   kept = λ i c h. g .done i (omega arith) .kept c;
   more = λ i c h. g .done i (omega arith) .more c;
 }
+
+-- ---- the same of an equal row
+
+pub matched-as : {A B : ℕ → ℕ} {k r s s′ : ℕ} → s ≡ s′ → Exactly r (Matched A B k s) → Exactly r (Matched A B k s′)
+matched-as {A} {B} {k} {r} e x = subst (λ (z : ℕ). Exactly r (Matched A B k z)) e x
+
+pub given-as : {S : ℕ → ℕ} {k t s s′ : ℕ} {A B : ℕ → ℕ} → s ≡ s′ → Given S k s t A B → Given S k s′ t A B
+given-as {S} {k} {t} {A = A} {B = B} e g = subst (λ (z : ℕ). Given S k z t A B) e g

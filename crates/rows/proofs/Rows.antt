@@ -4,8 +4,8 @@ use mathlib.Core.List.{List, [], _∷_}
 use mathlib.Core.Logic.{⊎-elim}
 use Prim.Native.Nat.{ℕ, _+_, _*_, _/_, _<_}
 use native.Mathlib.Omega.{arith}
-use lib.ListN.{length, getD, set, length-set}
-use lib.Seq.{getD-set-same, getD-set-other}
+use lib.ListN.{length, getD, set, take, length-set}
+use lib.Seq.{getD-set-same, getD-set-other, getD-take}
 use Rattle.bases.specs.Base.{baseOf}
 use Rattle.bases.proofs.Plain.{lt-or-le}
 use Rattle.rows.specs.Row.{rowIn, PutRow}
@@ -57,3 +57,8 @@ rows-more P {w} {w′} {j} {s} p f h i l = ⊎-elim
     (λ c. subst (P i) (sym (p .kept i (λ z. omega arith))) (f i c))
     (λ c. let same : i ≡ j = omega arith in subst (λ (x : ℕ). P x (rowIn w′ x)) (sym same) (subst (P j) (sym (p .here)) h))
     (lt-or-le i j)
+
+-- a row that stands whole in the first n words
+pub row-in-part : (n : ℕ) (w : List ℕ) (j : ℕ) → j * 4 + 3 < n → rowIn (take n w) j ≡ rowIn w j
+row-in-part n w j h =
+    words-same (getD-take n w (j * 4) 0 (omega arith)) (getD-take n w (j * 4 + 1) 0 (omega arith)) (getD-take n w (j * 4 + 2) 0 (omega arith)) (getD-take n w (j * 4 + 3) 0 h)

@@ -13,8 +13,16 @@ pub struct Rule {
 // How many numbers a rule is.
 pub const SIZE: usize = 4;
 
-// The kind of a join, the one that names three texts.
+// The kinds: equal once trailing blanks are dropped, at most, before, equal to the letter; a join is the one that names three texts.
+pub const PADDED: u64 = 0;
+
+pub const AT_MOST: u64 = 1;
+
+pub const BEFORE: u64 = 2;
+
 pub const JOIN: u64 = 3;
+
+pub const EXACT: u64 = 4;
 
 // Rule j, from 0, of lent numbers.
 pub fn rule_at(rules: &[u64], j: usize) -> Rule

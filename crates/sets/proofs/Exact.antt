@@ -20,10 +20,10 @@ use Rattle.sets.specs.Set.{Exactly, OneUp}
 -- ---- what a property says of the number
 
 pub exactly-one : {m n : ℕ} {P : ℕ → Type 0} → Exactly m P → Exactly n P → m ≡ n
-exactly-one x y = same-base _ _ (λ e h. y .mark e (x .so e h)) (λ e h. x .mark e (y .so e h))
+exactly-one x y = same-base _ _ (λ e h. y .has e (x .so e h)) (λ e h. x .has e (y .so e h))
 
 pub exactly-as : {n : ℕ} {P Q : ℕ → Type 0} → ((e : ℕ) → P e → Q e) → ((e : ℕ) → Q e → P e) → Exactly n P → Exactly n Q
-exactly-as f g x = record { so = λ e h. f e (x .so e h); mark = λ e q. x .mark e (g e q) }
+exactly-as f g x = record { so = λ e h. f e (x .so e h); has = λ e q. x .has e (g e q) }
 
 pub exactly-at : {m n : ℕ} {P : ℕ → Type 0} → m ≡ n → Exactly n P → Exactly m P
 exactly-at {P} e x = subst (λ (z : ℕ). Exactly z P) (sym e) x
@@ -57,13 +57,13 @@ tells-same e = tells-bit _ (λ h. e ∙ h) (λ h. sym e ∙ h)
 
 pub none-exactly : {n : ℕ} {P : ℕ → Type 0} → n ≡ 0 → ((e : ℕ) → P e → ⊥) → Exactly n P
 unfolding Empty
-none-exactly z none = exactly-at z (record { so = λ e h. absurd (none-in-zero e h); mark = λ e p. absurd (none e p) })
+none-exactly z none = exactly-at z (record { so = λ e h. absurd (none-in-zero e h); has = λ e p. absurd (none e p) })
 
 pub both-exactly : (s t : ℕ) {n : ℕ} → n ≡ bitAnd s t → Exactly n (λ e. Holds s e × Holds t e)
-both-exactly s t d = exactly-at d (record { so = shared s t; mark = λ e h. both s t e (h .0) (h .1) })
+both-exactly s t d = exactly-at d (record { so = shared s t; has = λ e h. both s t e (h .0) (h .1) })
 
 pub either-exactly : (s t : ℕ) {n : ℕ} → n ≡ bitOr s t → Exactly n (λ e. Holds s e ⊎ Holds t e)
-either-exactly s t d = exactly-at d (record { so = either s t; mark = λ e h. ⊎-elim (in-first s t e) (in-second s t e) h })
+either-exactly s t d = exactly-at d (record { so = either s t; has = λ e h. ⊎-elim (in-first s t e) (in-second s t e) h })
 
 -- what t leaves of s
 abbrev rest : ℕ → ℕ → ℕ
@@ -83,12 +83,12 @@ without-exactly s t d = exactly-at d (record {
       (λ in-s. (in-s, λ in-t. not-one (sym (ap₂ rest in-s in-t) ∙ b)))
       (λ out. absurd (not-one (sym (ap (λ (x : ℕ). rest x (t / 2 ^ e % 2)) (bit-off s e out) ∙ and-zero-l (t / 2 ^ e % 2)) ∙ b)))
       (held-or-not s e);
-  mark = λ e h. rest-bit s t e ∙ ap₂ rest (h .0) (bit-off t e (h .1));
+  has = λ e h. rest-bit s t e ∙ ap₂ rest (h .0) (bit-off t e (h .1));
 })
 
 -- without one number: a smaller number, if it was there
 pub without-one : (s : ℕ) {one n i : ℕ} → Exactly one (λ e. e ≡ i) → Exactly n (λ e. Holds s e × (Holds one e → ⊥)) → Exactly n (λ e. Holds s e × (e ≡ i → ⊥))
-without-one s o x = exactly-as (λ e h. (h .0, λ d. h .1 (o .mark e d))) (λ e h. (h .0, λ d. h .1 (o .so e d))) x
+without-one s o x = exactly-as (λ e h. (h .0, λ d. h .1 (o .has e d))) (λ e h. (h .0, λ d. h .1 (o .so e d))) x
 
 pub one-fewer : {n : ℕ} (s i : ℕ) → Exactly n (λ e. Holds s e × (e ≡ i → ⊥)) → Holds s i → n < s
 one-fewer {n} s i x h = ⊎-elim (λ l. l)
@@ -99,11 +99,11 @@ one-fewer {n} s i x h = ⊎-elim (λ l. l)
 
 pub down-exactly : (s : ℕ) {n : ℕ} → n ≡ s / 2 → Exactly n (λ e. Holds s (e + 1))
 unfolding Holds
-down-exactly s d = exactly-at d (record { so = λ e h. rw add-one (halved s e ∙ h); mark = λ e h. sym (halved s e) ∙ (rw add-one at h) })
+down-exactly s d = exactly-at d (record { so = λ e h. rw add-one (halved s e ∙ h); has = λ e h. sym (halved s e) ∙ (rw add-one at h) })
 
 double-exactly : (s : ℕ) → Exactly (s * 2) (OneUp s)
 unfolding Holds
-double-exactly s = record { so = so; mark = λ e u. rw (u .next, add-one) (twice (u .number) ∙ u .held) }
+double-exactly s = record { so = so; has = λ e u. rw (u .next, add-one) (twice (u .number) ∙ u .held) }
   where
     twice : (q : ℕ) → s * 2 / 2 ^ suc q % 2 ≡ s / 2 ^ q % 2
     twice q = halved (s * 2) q ∙ ap (λ (x : ℕ). x / 2 ^ q % 2) (let z : s * 2 / 2 ≡ s = omega arith in z)
@@ -116,7 +116,7 @@ kept-exactly : (n k : ℕ) → Exactly (n % 2 ^ k) (λ e. (e < k) × Holds n e)
 unfolding Holds
 kept-exactly n k = record {
   so = λ e h. let l = held-under k (mod-lt n (pow-pos k)) e h in (l, sym (kept e l) ∙ h);
-  mark = λ e h. kept e (h .0) ∙ h .1;
+  has = λ e h. kept e (h .0) ∙ h .1;
 }
   where
     kept : (e : ℕ) → e < k → n % 2 ^ k / 2 ^ e % 2 ≡ n / 2 ^ e % 2
@@ -127,29 +127,29 @@ kept-exactly n k = record {
 
 pub up-exactly : (s k : ℕ) {n : ℕ} → n ≡ s * 2 % 2 ^ k → Exactly n (λ e. (e < k) × OneUp s e)
 up-exactly s k d = exactly-at d
-    (exactly-as (λ e h. (h .0, double-exactly s .so e (h .1))) (λ e h. (h .0, double-exactly s .mark e (h .1))) (kept-exactly (s * 2) k))
+    (exactly-as (λ e h. (h .0, double-exactly s .so e (h .1))) (λ e h. (h .0, double-exactly s .has e (h .1))) (kept-exactly (s * 2) k))
 
 -- ---- 2 ^ k and 2 ^ k - 1
 
 pub one-exactly : (k : ℕ) → Exactly (2 ^ k) (λ e. e ≡ k)
 unfolding Holds
-one-exactly zero = record { so = λ e h. let l = held-under 1 (lit< tt) e h in omega arith; mark = λ e z. rw z refl }
+one-exactly zero = record { so = λ e h. let l = held-under 1 (lit< tt) e h in omega arith; has = λ e z. rw z refl }
 one-exactly (suc k) = exactly-at (pow-suc 2 k) (exactly-as
     (λ e u. u .next ∙ add-one (u .number) ∙ ap suc (one-exactly k .so (u .number) (u .held)))
-    (λ e z. record { number = k; held = one-exactly k .mark k refl; next = z ∙ sym (add-one k) })
+    (λ e z. record { number = k; held = one-exactly k .has k refl; next = z ∙ sym (add-one k) })
     (double-exactly (2 ^ k)))
 
 pub ones-exactly : (k : ℕ) → Exactly (2 ^ k - 1) (λ e. e < k)
 unfolding Holds
-ones-exactly k = record { so = held-under k (ones-lt k); mark = mark }
+ones-exactly k = record { so = held-under k (ones-lt k); has = has }
   where
     odd : (i : ℕ) → (2 ^ suc i - 1) % 2 ≡ 1
     odd i =
         let z : ((2 ^ i - 1) * 2 + 1) % 2 ≡ 1 = omega arith in
         ap (λ (x : ℕ). x % 2) (ap (λ (x : ℕ). x - 1) (pow-suc 2 i) ∙ dbl-pred (pow-pos i)) ∙ z
 
-    mark : (e : ℕ) → e < k → (2 ^ k - 1) / 2 ^ e % 2 ≡ 1
-    mark e l =
+    has : (e : ℕ) → e < k → (2 ^ k - 1) / 2 ^ e % 2 ≡ 1
+    has e l =
         let i : ℕ = k - e - 1 in
         let split : k ≡ suc i + e = omega arith in
         ap (λ (z : ℕ). (2 ^ z - 1) / 2 ^ e % 2) split

@@ -33,9 +33,9 @@ exactly-more {P} w ws h x rest = record {
       (λ small. x .so e (sym (first-word w e ws small) ∙ b) .1)
       (λ large. subst P (back e large) (rest .so (e - 64) (sym (later-word w e ws h large) ∙ b)))
       (lt-or-le e 64);
-  mark = λ e p. ⊎-elim
-      (λ small. first-word w e ws small ∙ x .mark e (small, p))
-      (λ large. later-word w e ws h large ∙ rest .mark (e - 64) (subst P (sym (back e large)) p))
+  has = λ e p. ⊎-elim
+      (λ small. first-word w e ws small ∙ x .has e (small, p))
+      (λ large. later-word w e ws h large ∙ rest .has (e - 64) (subst P (sym (back e large)) p))
       (lt-or-le e 64);
 }
   where

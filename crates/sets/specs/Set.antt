@@ -12,7 +12,7 @@ setOf s = baseOf (s .a ∷ (s .b ∷ (s .c ∷ (s .d ∷ []))))
 -- the numbers that n holds are exactly those that have P
 pub record Exactly (n : ℕ) (P : ℕ → Type 0) : Type 0 where
   pub so : (e : ℕ) → Holds n e → P e
-  pub mark : (e : ℕ) → P e → Holds n e
+  pub has : (e : ℕ) → P e → Holds n e
 
 -- e is one more than a number that n holds
 pub record OneUp (n e : ℕ) : Type 0 where

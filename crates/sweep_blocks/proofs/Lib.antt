@@ -1,4 +1,2 @@
--- The laws of the steps of the quick sweep.
-pub mod Look
+-- The laws of the loops of push and stretch.
 pub mod Turn
-pub mod Back

@@ -12,7 +12,7 @@ use Rattle.bases.proofs.Plain.{lt-or-le}
 use Rattle.shapes.specs.Shape.{textOf}
 use Rattle.sweep_steps.specs.Share.{pick}
 use Rattle.sweep_steps.specs.Places.{at, numberOf, offsetOf}
-use Rattle.sweep_steps.specs.Names.{Index, AtOrBefore, earlier-block, same-block, Name, within, past, Latest}
+use Rattle.sweep_steps.specs.Names.{Boundary, AtOrBefore, earlier-block, same-block, Name, within, past, Latest}
 use Rattle.sweep_steps.specs.declared.Place.{Place}
 use Rattle.sweep_steps.proofs.Laid.{sum, stand, stand-ahead, stand-least}
 use Rattle.sweep_steps.proofs.Turned.{stand-into}
@@ -86,7 +86,7 @@ unfolding stand sum
 stand-past i p [] q h = omega arith
 stand-past i p (n ∷ ns) q h = stand-ahead i p n ns q (omega arith) ∙ stand-past (i + 1) (p + n) ns q (omega arith) ∙ omega arith
 
-name-stands : (g : List (List ℕ)) (b : Index) (q : Place) → Name g b q → stand 1 0 (lengths g) q ≤ b .characters
+name-stands : (g : List (List ℕ)) (b : Boundary) (q : Place) → Name g b q → stand 1 0 (lengths g) q ≤ b .characters
 name-stands g b q (within j l e o c) =
     let m = lengths-length g in
     let n = lengths-at g j in
@@ -116,7 +116,7 @@ top-top i p (r ∷ g) b l h = go (ltb b (p + length r)) refl (let e = length-app
     go true e ih = let m = ltb-true b (p + length r) e in amid 0 (omega arith) (omega arith) (omega arith) (omega arith)
     go false e ih = onward (ih (ltb-false b (p + length r) e))
 
-module _ (g : List (List ℕ)) (b : Index) (inside : b .characters ≤ length (textOf g)) where
+module _ (g : List (List ℕ)) (b : Boundary) (inside : b .characters ≤ length (textOf g)) where
   highest : Place
   highest = top 1 0 (lengths g) (b .characters)
 

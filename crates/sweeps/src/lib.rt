@@ -34,10 +34,10 @@ fn stretch_all(x: &[u64], y: &[u64], kept: &mut [u64]) -> Stretched
     let mut looks: u64 = 0;
     let mut i = x.len() / shapes::SIZE;
     while 0 < i {
-        let r = sweep_blocks::stretch(sweep_blocks::block(x, BlockNumber(i as u64)), y, reached);
+        let r = sweep_blocks::stretch(sweep_places::block(x, BlockNumber(i as u64)), y, reached);
         reached = r.end;
         looks += r.looks;
-        let p = sweep_blocks::forward(y, reached);
+        let p = sweep_places::forward(y, reached);
         i -= 1;
         let at = i * 2;
         kept[at] = p.block.0;
@@ -73,9 +73,9 @@ fn push_all(x: &[u64], y: &[u64], kept: &mut [u64]) -> Passed
         };
         let next = i as u64 + 1;
         let r = sweep_blocks::push(
-            sweep_blocks::block(x, BlockNumber(next)),
+            sweep_places::block(x, BlockNumber(next)),
             y,
-            sweep_blocks::later(held, end),
+            sweep_places::later(held, end),
         );
         looks += r.looks;
         if r.left != 0 {

@@ -12,14 +12,15 @@ use Rattle.shapes.specs.Shape.{Block, Sound, Run, Filling, fill, done, textOf, 
 use Rattle.shapes.proofs.All.{all-at}
 use Rattle.texts.specs.Padding.{trimmed, Padded}
 use Rattle.texts.proofs.Padding.{padded-blanks, blanks-empty}
-use Rattle.hulls.specs.Hull.{Pairs, Hull, to-shapes}
+use Rattle.hulls.specs.Hull.{Pairs, Hull, none, shapes, to-shapes}
+use Rattle.hulls.proofs.Hull.{one-outcome}
 use Rattle.hulls.proofs.Fill.{filling-size, filling-at}
 use Rattle.hulls.proofs.Tight.{tight-same, tight-run}
 use Rattle.hulls.proofs.Frame.{some-filling, set-filling}
 use Rattle.sweep_steps.specs.Share.{sharesWithin, shares}
 use Rattle.sweep_steps.specs.Places.{before, later, forward}
 use Rattle.sweep_steps.specs.Steps.{pushLook, pushing, push, stretchLook, stretching, stretch, stretches, pushes, sweepOf}
-use Rattle.table.specs.Letters.{a, empty, block}
+use Rattle.table.specs.Letters.{a, empty, block, NarrowedTo, both}
 use Rattle.table.specs.Padding.{blank, padded, bare, Padding}
 use Rattle.table.proofs.Soundness.{all-sound, all-sound-by}
 use Rattle.table.proofs.Computed.{reckoned, computed}
@@ -62,6 +63,9 @@ nothing (c ∷ r) b = let u = b .bounded in absurd (omega arith)
 blank-only : (c : ℕ) → Holds blank c → c ≡ 32
 blank-only c h = one-exactly 32 .so c h
 
+not-shapes : {H : List Block} → none ≡ shapes H → ⊥
+not-shapes e = let z : _≡_ {A = ℕ} 0 1 = cc in omega arith
+
 -- ---- the two examples
 
 an-a-and-a-blank : (f : List (List ℕ)) → Filling (padded ++ bare) f → Pairs Padded 2 f
@@ -74,11 +78,16 @@ unfolding textOf
 blanks-and-nothing f (fill {r = p} x (fill {r = q} y done)) =
     ap trimmed (append-nil p ∙ only blank 32 blank-only (x .held)) ∙ blanks-empty (length p) ∙ ap (λ (u : List ℕ). trimmed (u ++ [])) (sym (nothing q y))
 
+some-padded : NarrowedTo Padded padded bare (both padded bare)
+unfolding all-sound
+some-padded = record { narrows = to-shapes (all-kept (all-sound-by (padded ++ bare) refl) an-a-and-a-blank) }
+
 pub padding : Padding
 unfolding all-sound reckoned sharesWithin shares before later forward pushLook pushing push stretchLook stretching stretch stretches pushes sweepOf
 padding = record {
   sweep-cannot = refl;
   none-exact = computed refl refl refl;
-  some-padded = record { narrows = to-shapes (all-kept (all-sound-by (padded ++ bare) refl) an-a-and-a-blank) };
+  some-padded = some-padded;
+  none-false = λ h. not-shapes (one-outcome (h .narrows) (some-padded .narrows));
   blanks-kept = record { narrows = to-shapes (all-kept (all-sound-by (block blank 0 5 ∷ (block empty 0 0 ∷ [])) refl) blanks-and-nothing) };
 }

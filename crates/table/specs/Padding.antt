@@ -21,9 +21,10 @@ abbrev pub bare : List Block
 bare = block a 1 1 ∷ []
 
 pub record Padding : Type 0 where
-  -- "a 'cannot' is no ground for a kind 0 none": the sweep says cannot, to the letter there is none, and but for padding both stay as entered
+  -- "a 'cannot' is no ground for a kind 0 none": the sweep says cannot, to the letter there is none, and but for padding both stay as entered; none would be false
   pub sweep-cannot : sweepOf padded bare ≡ cannot 4
   pub none-exact : NarrowedTo Same padded bare none
   pub some-padded : NarrowedTo Padded padded bare (both padded bare)
+  pub none-false : NarrowedTo Padded padded bare none → ⊥
   -- a block that holds only padding: blanks 0..5 against nothing stay blanks 0..5
   pub blanks-kept : NarrowedTo Padded (block blank 0 5 ∷ []) (block empty 0 0 ∷ []) (both (block blank 0 5 ∷ []) (block empty 0 0 ∷ []))

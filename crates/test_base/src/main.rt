@@ -11,26 +11,19 @@
 mod show;
 
 use answers::Written;
-use test_lines::fields::find;
 use test_lines::fields::first_field;
 use test_lines::fields::later_fields;
 use test_lines::fields::read_text;
 use test_lines::fields::read_words;
 use test_lines::fields::within;
+use test_lines::lines;
 
 fn main() {
-    let mut input = [0u8; 400000];
-    let n = io::read_full(0, &mut input);
-    run(&input[..n]);
-}
-
-// Runs each line of the input.
-fn run(input: &[u8]) {
-    let mut at = 0;
-    while at < input.len() {
-        let end = find(input, at, b'\n');
-        case(&input[at..end]);
-        at = end + 1;
+    let mut buffer = io::large_buffer();
+    let mut place = lines::start();
+    while 0 < place.left {
+        place = lines::next(&mut buffer, place);
+        case(lines::line(&buffer, place));
     }
 }
 

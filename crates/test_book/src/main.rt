@@ -1,5 +1,5 @@
-// Runs the books of the standard input, one to a line, and writes a line for each. The second program makes the input and,
-// by other methods, the output that is wanted.
+// Runs the books of the standard input, one to a line, and writes a line for each. The second program makes the input
+// and the output that is wanted.
 //
 //     B k c w .. b w .. r w ..    stable applications blocks work z e | none applications blocks work z e
 //                                 | refused number text place blocks work z e
@@ -9,26 +9,19 @@
 // buffer begins with and the untouched ones at its end.
 use answers::Ran;
 use test_lines::fields::copy_numbers;
-use test_lines::fields::find;
 use test_lines::fields::first_list;
 use test_lines::fields::later_lists;
 use test_lines::fields::read_words;
 use test_lines::fields::within;
+use test_lines::lines;
 use test_lines::show;
 
 fn main() {
-    let mut input = [0u8; 400000];
-    let n = io::read_full(0, &mut input);
-    run(&input[..n]);
-}
-
-// Runs each line of the input.
-fn run(input: &[u8]) {
-    let mut at = 0;
-    while at < input.len() {
-        let end = find(input, at, b'\n');
-        case(&input[at..end]);
-        at = end + 1;
+    let mut buffer = io::large_buffer();
+    let mut place = lines::start();
+    while 0 < place.left {
+        place = lines::next(&mut buffer, place);
+        case(lines::line(&buffer, place));
     }
 }
 

@@ -8,26 +8,20 @@
 // text is shown as hex pairs, `-` if it is empty, and the untouched bytes at the output's end are counted, which are all of
 // them where there is no text; z and e count the bytes 0 that the work buffer begins with and the untouched ones at its end.
 use answers::Shown;
-use test_lines::fields::find;
+use test_lines::fields::NUMBERS;
 use test_lines::fields::first_list;
 use test_lines::fields::later_lists;
 use test_lines::fields::read_words;
 use test_lines::fields::within;
+use test_lines::lines;
 use test_lines::show;
 
 fn main() {
-    let mut input = [0u8; 400000];
-    let n = io::read_full(0, &mut input);
-    run(&input[..n]);
-}
-
-// Runs each line of the input.
-fn run(input: &[u8]) {
-    let mut at = 0;
-    while at < input.len() {
-        let end = find(input, at, b'\n');
-        case(&input[at..end]);
-        at = end + 1;
+    let mut buffer = io::large_buffer();
+    let mut place = lines::start();
+    while 0 < place.left {
+        place = lines::next(&mut buffer, place);
+        case(lines::line(&buffer, place));
     }
 }
 
@@ -35,7 +29,7 @@ fn case(line: &[u8]) {
     if line.len() == 0 {
         return;
     }
-    let mut row = [0u64; 420];
+    let mut row = [0u64; NUMBERS];
     let n = read_words(&line[1..], &mut row);
     match line[0] {
         b'C' => common_case(&row[..n]),

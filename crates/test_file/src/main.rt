@@ -1,5 +1,5 @@
 // Runs the book files of the standard input to their reports, one to a line, and writes a line for each. The second program
-// makes the input and, by other methods, the output that is wanted.
+// makes the input and the output that is wanted.
 //
 //     F k file    report length text rest e | refused number text place rest e
 //
@@ -11,23 +11,16 @@ use test_lines::fields::first_field;
 use test_lines::fields::later_fields;
 use test_lines::fields::read_text;
 use test_lines::fields::read_words;
-use test_lines::fields::room;
 use test_lines::fields::within;
+use test_lines::lines;
 use test_lines::show;
 
 fn main() {
-    let mut input = room();
-    let n = io::read_full(0, &mut input);
-    run(&input[..n]);
-}
-
-// Runs each line of the input.
-fn run(input: &[u8]) {
-    let mut at = 0;
-    while at < input.len() {
-        let end = find(input, at, b'\n');
-        case(&input[at..end]);
-        at = end + 1;
+    let mut buffer = io::large_buffer();
+    let mut place = lines::start();
+    while 0 < place.left {
+        place = lines::next(&mut buffer, place);
+        case(lines::line(&buffer, place));
     }
 }
 

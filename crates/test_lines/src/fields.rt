@@ -1,15 +1,10 @@
 // The fields of a line, and lists among its numbers.
-ghost use mathlib.Core.Path.{_≡_};
 ghost use Prim.Native.Nat.{_≤_, _<_};
 ghost use lib.ListN.{length};
 ghost use Rattle.io.specs.Counts.{Counts};
 
-// Room for all of a large input.
-pub fn room() -> [u8; 1000000]
-    ensures { λ r. ⌜ 1000000 ≡ length r ⌝ }
-{
-    [0; 1000000]
-}
+// Room for the numbers of a line: three shapes of 32 blocks, six numbers to a block, and what stands before them.
+pub const NUMBERS: usize = 640;
 
 // Where `mark` stands first from the place `from` on, or the end.
 pub fn find(s: &[u8], from: usize, mark: u8) -> usize

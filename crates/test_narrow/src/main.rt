@@ -1,5 +1,5 @@
 // Runs the cases of the standard input through exact narrowing, one to a line, and writes a line for each. The second
-// program makes the input and, by other methods, the output that is wanted.
+// program makes the input and the output that is wanted; tests/second/pairs.py and joins.py say by which methods.
 //
 //     N kind k rx ry n w .. m w ..         narrow outputs work z e | none outputs work z e
 //                                          | refused number text place outputs work z e
@@ -10,28 +10,21 @@
 // line are hex, and so are those of the outputs, all of which are shown as they are after the call, each but the first behind
 // a slash; z and e count the bytes 0 that the work buffer begins with and the untouched ones at its end.
 use answers::Narrowed;
-use test_lines::fields::find;
+use test_lines::fields::NUMBERS;
 use test_lines::fields::first_list;
 use test_lines::fields::later_lists;
 use test_lines::fields::read_words;
-use test_lines::fields::room;
 use test_lines::fields::within;
 use test_lines::fields::within_numbers;
+use test_lines::lines;
 use test_lines::show;
 
 fn main() {
-    let mut input = room();
-    let n = io::read_full(0, &mut input);
-    run(&input[..n]);
-}
-
-// Runs each line of the input.
-fn run(input: &[u8]) {
-    let mut at = 0;
-    while at < input.len() {
-        let end = find(input, at, b'\n');
-        case(&input[at..end]);
-        at = end + 1;
+    let mut buffer = io::large_buffer();
+    let mut place = lines::start();
+    while 0 < place.left {
+        place = lines::next(&mut buffer, place);
+        case(lines::line(&buffer, place));
     }
 }
 
@@ -39,7 +32,7 @@ fn case(line: &[u8]) {
     if line.len() == 0 {
         return;
     }
-    let mut row = [0u64; 420];
+    let mut row = [0u64; NUMBERS];
     let n = read_words(&line[1..], &mut row);
     match line[0] {
         b'N' => narrow_case(&row[..n]),

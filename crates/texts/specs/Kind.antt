@@ -1,11 +1,31 @@
--- Document 01, "A book and its run", and document 02, order 5: the relation of two texts that a kind of rule names: 0 equal once trailing blanks are dropped, 1 at
--- most, 2 before, 4 equal to the letter. No other kind names one: 3 is the join of document 02, order 3, which names three texts.
+-- Document 01, "A book and its run", and document 02, orders 3 and 5: the kinds of a rule, and the relation of two texts that a kind names. That of a join names none,
+-- since a join names three texts.
 use mathlib.Core.Path.{_≡_}
 use mathlib.Core.List.{List}
 use Prim.Native.Nat.{ℕ, zero, suc, _≤_}
 use Rattle.texts.specs.Order.{AtMost, Before}
 use Rattle.texts.specs.Padding.{Padded}
 
+abbrev pub paddedKind : ℕ
+paddedKind = 0
+
+abbrev pub atMostKind : ℕ
+atMostKind = 1
+
+abbrev pub beforeKind : ℕ
+beforeKind = 2
+
+abbrev pub joinKind : ℕ
+joinKind = 3
+
+abbrev pub exactKind : ℕ
+exactKind = 4
+
+-- No kind comes after it.
+abbrev pub lastKind : ℕ
+lastKind = exactKind
+
+-- Case by case, in this order.
 unfoldable pub relationOf : ℕ → List ℕ → List ℕ → Type 0
 relationOf zero t u = Padded t u
 relationOf (suc zero) t u = AtMost t u
@@ -13,13 +33,6 @@ relationOf (suc (suc zero)) t u = Before t u
 relationOf (suc (suc (suc zero))) t u = ⊥
 relationOf (suc (suc (suc (suc zero)))) t u = t ≡ u
 relationOf (suc (suc (suc (suc (suc k))))) t u = ⊥
-
--- The last kind, and that of the join.
-abbrev pub lastKind : ℕ
-lastKind = 4
-
-abbrev pub joinKind : ℕ
-joinKind = 3
 
 -- A kind of two texts.
 pub record OfTwo (k : ℕ) : Type 0 where

@@ -3,6 +3,7 @@ use mathlib.Core.Path.{_≡_, refl, sym, ap, _∙_}
 use Prim.Native.Nat.{ℕ, _+_, _-_, _/_, _≤_, _<_}
 use native.Mathlib.Omega.{arith}
 use lib.ListN.{length}
+use lib.Seq.{length-take-le}
 use Rattle.sets.specs.Set.{setOf}
 use Rattle.shapes.specs.Shape.{Block}
 use Rattle.row_lay.proofs.Laid.{upper-within}
@@ -15,34 +16,53 @@ use Rattle.common_back.proofs.back.Statement.{statement}
 use Rattle.common_back.proofs.back.Tie as tie
 
 abbrev Inv-loop : tie.InvT-loop
-Inv-loop x y zones ends slots mines₀ rows₀ k m row₀ p₀ i₀ mines rows row p i =
+Inv-loop x y zones ends slots mines₀ rows₀ k m runs room words row₀ p₀ i₀ mines rows row p i =
     (k ≡ length y / 4) × (i ≤ length x / 4) × (length mines ≡ length mines₀) × (length rows ≡ tableSize) × PassFrom x y i p mines rows (setOf row)
 
 abbrev μ-loop : tie.MeasureT-loop
-μ-loop x y zones ends slots mines₀ rows₀ k m row₀ p₀ i₀ mines rows row p i = i
+μ-loop x y zones ends slots mines₀ rows₀ k m runs room words row₀ p₀ i₀ mines rows row p i = i
 
 abbrev start : tie.At-loop Inv-loop μ-loop → tie.Start Inv-loop μ-loop
-start c = c .before .before .before .before .before .before .before .before .before .before .before .before .before .before .before .before .before
+start c = c .before .before .before .before .before .before .before .before .before .before .before .before .before .before .before .before .before .before .before .before .before .before
 
 total-upper-requires : tie.Need-total-upper-requires Inv-loop μ-loop
 total-upper-requires c κs = let short = c .before .before .before .before .before .before .before .pre .1 .0 .whole .short in omega arith
 
-single-requires : tie.Need-single-requires Inv-loop μ-loop
-single-requires c κs = let short = c .before .before .before .before .before .before .before .before .pre .1 .0 .whole .short in let m = c .total-upper .ensures in omega arith
-
-back-requires : tie.Need-back-requires Inv-loop μ-loop
-back-requires c κs =
-    let y = c .before .before .before .before .before .before .before .before .before .pre .1 .0 in
+all-runs-requires : tie.Need-all-runs-requires Inv-loop μ-loop
+all-runs-requires c κs =
+    let y = c .before .before .before .before .before .before .before .before .pre .1 .0 in
     let zones = y .zones-long in
     let ends = y .ends-long in
-    ((omega arith, omega arith), laid-turn y refl)
+    (omega arith, omega arith)
+
+slice-aggregate-spans : tie.Need-slice-aggregate-spans Inv-loop μ-loop
+slice-aggregate-spans c = refl
+
+spans-requires : tie.Need-spans-requires Inv-loop μ-loop
+spans-requires c κs = search needs
+
+array-share-prefix-room : tie.Need-array-share-prefix-room Inv-loop μ-loop
+array-share-prefix-room c = c .before .spans .ensures .0
+
+slice-aggregate-back-by : tie.Need-slice-aggregate-back-by Inv-loop μ-loop
+slice-aggregate-back-by c = sym (length-take-le _ _ (c .before .before .spans .ensures .0))
+
+single-requires : tie.Need-single-requires Inv-loop μ-loop
+single-requires c κs = let short = c .before .before .before .before .before .before .before .before .before .before .before .before .before .pre .1 .0 .whole .short in let m = c .before .before .before .before .before .total-upper .ensures in omega arith
+
+back-by-requires : tie.Need-back-by-requires Inv-loop μ-loop
+back-by-requires c κs =
+    let y = c .before .before .before .before .before .before .before .before .before .before .before .before .before .before .pre .1 .0 in
+    let zones = y .zones-long in
+    let ends = y .ends-long in
+    ((omega arith, omega arith), (laid-turn y refl, (c .before .before .before .before .before .all-runs .ensures, c .before .before .before .spans .ensures .1)))
 
 total-upper-requires-2 : tie.Need-total-upper-requires-2 Inv-loop μ-loop
-total-upper-requires-2 c κs = let short = c .before .before .before .before .before .before .before .before .before .before .before .pre .0 .short in omega arith
+total-upper-requires-2 c κs = let short = c .before .before .before .before .before .before .before .before .before .before .before .before .before .before .before .before .pre .0 .short in omega arith
 
 put-row-requires : tie.Need-put-row-requires Inv-loop μ-loop
 put-row-requires c κs =
-    let s = c .before .before .before .before .before .before .before .before .before .before .before .before .before .pre in
+    let s = c .before .before .before .before .before .before .before .before .before .before .before .before .before .before .before .before .before .before .pre in
     let short = s .0 .short in
     let long = s .1 .1 .1 in
     let p = c .before .total-upper2 .ensures in
@@ -50,7 +70,7 @@ put-row-requires c κs =
 
 loop-holds : tie.Need-loop-holds Inv-loop μ-loop
 loop-holds c =
-    let s = c .before .before .before .before .before .before .before .before .before .before .before .before .before .before .before .before in
+    let s = c .before .before .before .before .before .before .before .before .before .before .before .before .before .before .before .before .before .before .before .before .before in
     let u = c .before .before .put-row .ensures in
     let end = c .before .before .before .before in
     let closed = end .before .before in (
@@ -58,8 +78,8 @@ loop-holds c =
       search needs,
       search needs,
       u .long ∙ s .pre .1 .1 .1,
-      pass-last (laid-zones (s .pre .1 .0) refl) (s .args .mines .now) refl (end .total-upper2 .ensures) (closed .before .before .total-upper .ensures)
-          (closed .before .single .ensures) (closed .back .ensures .0) u,
+      pass-last (laid-zones (s .pre .1 .0) refl) (s .args .mines .now) refl (end .total-upper2 .ensures) (closed .before .before .before .before .before .before .before .total-upper .ensures)
+          (closed .before .single .ensures) (closed .back-by .ensures .0) u,
     )
 
 sub-i : tie.Need-sub-i Inv-loop μ-loop
@@ -96,22 +116,28 @@ put-row-requires-2 c κs =
     let room = start (c .before .before .before .before) .pre .1 .1 .0 in
     omega arith
 
+array-share-prefix-room-2 : tie.Need-array-share-prefix-room-2 Inv-loop μ-loop
+array-share-prefix-room-2 c = c .before .before .before .before .before .before .before .before .before .before .before .before .before .before .before .before .before .before .spans .ensures .0
+
+slice-aggregate-back-block : tie.Need-slice-aggregate-back-block Inv-loop μ-loop
+slice-aggregate-back-block c = sym (length-take-le _ _ (c .before .before .before .before .before .before .before .before .before .before .before .before .before .before .before .before .before .before .before .spans .ensures .0))
+
 back-block-requires : tie.Need-back-block-requires Inv-loop μ-loop
 back-block-requires c κs =
-    let l = c .before .before .before .before .before .before .before .before .loop in
-    let y = start (c .before .before .before .before .before .before .before .before) .pre .1 .0 in
+    let l = c .before .before .before .before .before .before .before .before .before .loop in
+    let y = start (c .before .before .before .before .before .before .before .before .before) .pre .1 .0 in
     let k = l .inv .0 in
     let zones = y .zones-long in
     let ends = y .ends-long in
-    let h = within (c .before .before .before .before .before .before) in
-    ((omega arith, omega arith), (laid-turn y k, (omega arith, l .inv .3)))
+    let h = within (c .before .before .before .before .before .before .before) in
+    ((omega arith, omega arith), (laid-turn y k, ((c .before .before .before .before .before .before .before .before .before .before .before .before .before .before .before .before .before .before .before .before .before .before .all-runs .ensures, c .before .before .before .before .before .before .before .before .before .before .before .before .before .before .before .before .before .before .before .before .spans .ensures .1), (omega arith, l .inv .3))))
 
 loop-less : tie.Need-loop-less Inv-loop μ-loop
-loop-less c = let t = c .before .before .before .before .before .before .before .before .before .before .loop-test .taken in omega arith
+loop-less c = let t = c .before .before .before .before .before .before .before .before .before .before .before .loop-test .taken in omega arith
 
 loop-again : tie.Need-loop-again Inv-loop μ-loop
 loop-again c =
-    let put = c .before .before .before .before .before .before in
+    let put = c .before .before .before .before .before .before .before in
     let at = put .before .before .before in
     let l = at .before .before .loop in
     let s = start (at .before .before) in
@@ -149,8 +175,13 @@ back-spec =
     Inv-loop
     μ-loop
     total-upper-requires
+    all-runs-requires
+    slice-aggregate-spans
+    spans-requires
+    array-share-prefix-room
+    slice-aggregate-back-by
     single-requires
-    back-requires
+    back-by-requires
     total-upper-requires-2
     put-row-requires
     loop-holds
@@ -159,6 +190,8 @@ back-spec =
     sub-p
     matching-requires
     put-row-requires-2
+    array-share-prefix-room-2
+    slice-aggregate-back-block
     back-block-requires
     loop-less
     loop-again

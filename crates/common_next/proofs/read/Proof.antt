@@ -19,9 +19,10 @@ onward-requires c κs = search needs
 
 returns : tie.Need-returns
 returns c =
-    let s = c .before .before .before .before .before .before .before .before .before .before in
+    let s = c .before .before .before .before .before .before .before .before .before in
     let t = c .before .before .before .taking .ensures in
-    (t, (row-after (s .args .shape .now) (setOf _) (setOf _) _ (s .pre .0 .whole .short) t (c .before .before .both .ensures) (c .before .up .ensures) (c .onward .ensures), s .pre .1 .0 .1))
+    let e = s .pre .1 .0 .1 in
+    (t, (row-after (s .args .shape .now) (setOf _) (setOf _) _ (s .pre .0 .laid .whole .short) t (c .before .before .both .ensures) (c .before .up .ensures) (c .onward .ensures (s .args .shape .now) e), e))
 
 pub read-spec : {M : Type 1} → statement M
 read-spec = tie.close (tie.spec taking-requires both-requires up-requires onward-requires returns)

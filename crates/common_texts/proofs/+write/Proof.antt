@@ -24,14 +24,14 @@ use Rattle.common_texts.proofs.+write.{statement}
 use Rattle.common_texts.proofs.+write.Tie.{close}
 
 -- how many characters may still come
-abbrev μ-write : Measures 11 write-kinds.ps ℕ
-μ-write κs a = a .1 .1 .1 .1 .1 .1 .1 .1 .1 .1 .1 .0
+abbrev μ-write : Measures 7 write-kinds.ps ℕ
+μ-write κs a = a .1 .1 .1 .1 .1 .1 .1 .0
 
-abbrev write-at : ℕ → In 11 write-kinds.ps
-write-at t = and 11 write-kinds.ps (is 11 write-kinds.ps μ-write t) write.Pre
+abbrev write-at : ℕ → In 7 write-kinds.ps
+write-at t = and 7 write-kinds.ps (is 7 write-kinds.ps μ-write t) write.Pre
 
-abbrev write-below : ℕ → In 11 write-kinds.ps
-write-below t = and 11 write-kinds.ps (falls 11 write-kinds.ps _<_ μ-write t) write.Pre
+abbrev write-below : ℕ → In 7 write-kinds.ps
+write-below t = and 7 write-kinds.ps (falls 7 write-kinds.ps _<_ μ-write t) write.Pre
 
 -- what the functions that it calls ask and promise
 abbrev claims : ℕ → write-lts.Claims
@@ -39,24 +39,24 @@ claims t = (may-end-reads.Asked, may-end-reads.Learnt, next-reads.Asked, next-re
 
 write-may-end-requires : (t : ℕ) → write-lts.Need-may-end-requires (claims t) (write-at t) write.Post
 write-may-end-requires t c κs =
-    let p = c .before .before .before .before .before .before .before .before .before .before .before .before .before .before .before .pre .1 in
-    let sx = p .0 .own .whole .short in
-    let sy = p .0 .other .whole .short in
+    let p = c .before .before .before .before .before .before .before .before .before .before .before .before .pre .1 in
+    let sx = p .0 .own .laid .whole .short in
+    let sy = p .0 .other .laid .whole .short in
     let u = p .1 .0 .0 in
     let w = p .1 .0 .1 in
     (omega arith, omega arith)
 
 write-returns : (t : ℕ) → write-lts.Need-returns (claims t) (write-at t) write.Post
-write-returns t c = let s = c .before .before .before .before .before .before .before .before .before .before .before .before .before .before .before .before .before in let p = s .pre .1 in wrote-end (s .args .x .now) (s .args .y .now) _ _ _ _ (p .1 .1 .0 .0 .closed) (p .1 .1 .0 .1 .closed) (p .1 .0) (c .before .may-end .ensures .so (c .if1 .taken))
+write-returns t c = let s = c .before .before .before .before .before .before .before .before .before .before .before .before .before .before in let p = s .pre .1 in wrote-end (s .args .x .now) (s .args .y .now) _ _ _ _ (p .1 .1 .0 .0 .closed) (p .1 .1 .0 .1 .closed) (p .1 .0) (c .before .may-end .ensures .so (c .if1 .taken))
 
 write-next-requires : (t : ℕ) → write-lts.Need-next-requires (claims t) (write-at t) write.Post
-write-next-requires t c κs = let r = c .before .before .before .before .before .before .before .before .before .before .before .before .before .before .before .before .before .pre .1 .0 in ((record { zones = _; ends = _; laid = r .own }, record { zones = _; ends = _; laid = r .other }), r .table)
+write-next-requires t c κs = let r = c .before .before .before .before .before .before .before .before .before .before .before .before .before .before .pre .1 .0 in ((r .own, r .other), r .table)
 
 -- ---- once the next character is known
 
 module _ (t : ℕ) (c : write-lts.After-next (claims t) (write-at t) write.Post) where
   abbrev s : write-lts.Start (claims t) (write-at t) write.Post
-  s = c .before .before .before .before .before .before .before .before .before .before .before .before .before .before .before .before .before .before
+  s = c .before .before .before .before .before .before .before .before .before .before .before .before .before .before .before
 
   -- they may not end here
   not-end : Holds (setOf (s .args .own .row)) (s .args .last .own) × Holds (setOf (s .args .other .row)) (s .args .last .other) → ⊥
@@ -77,10 +77,10 @@ module _ (t : ℕ) (c : write-lts.After-next (claims t) (write-at t) write.Post)
   set-room = subst (λ (k : ℕ). 1 ≤ k) (sym (length-set (s .args .out .now) 0 _)) room
 
 write-read-requires : (t : ℕ) → write-lts.Need-read-requires (claims t) (write-at t) write.Post
-write-read-requires t c κs = let s = c .before .before .before .before .before .before .before .before .before .before .before .before .before .before .before .before .before .before .before in let r = s .pre .1 in let st = r .1 .1 .0 .0 in (r .0 .own, ((chosen t (c .before) .0, st .free), again (s .args .x .now) _ _ (st .takes)))
+write-read-requires t c κs = let s = c .before .before .before .before .before .before .before .before .before .before .before .before .before .before .before .before in let r = s .pre .1 in let st = r .1 .1 .0 .0 in (r .0 .own, ((chosen t (c .before) .0, st .runs), again (s .args .x .now) _ _ (st .takes)))
 
 write-read-requires-2 : (t : ℕ) → write-lts.Need-read-requires-2 (claims t) (write-at t) write.Post
-write-read-requires-2 t c κs = let s = c .before .before .before .before .before .before .before .before .before .before .before .before .before .before .before .before .before .before .before .before in let r = s .pre .1 in let st = r .1 .1 .0 .1 in (r .0 .other, ((chosen t (c .before .before) .0, st .free), again (s .args .y .now) _ _ (st .takes)))
+write-read-requires-2 t c κs = let s = c .before .before .before .before .before .before .before .before .before .before .before .before .before .before .before .before .before in let r = s .pre .1 in let st = r .1 .1 .0 .1 in (r .0 .other, ((chosen t (c .before .before) .0, st .runs), again (s .args .y .now) _ _ (st .takes)))
 
 write-cast-out : (t : ℕ) → write-lts.Need-cast-out (claims t) (write-at t) write.Post
 write-cast-out t c = let small = chosen t (c .before .before .before) .0 in search needs
@@ -102,7 +102,7 @@ write-part-write-end t c = search needs
 
 write-write-requires : (t : ℕ) → write-lts.Need-write-requires (claims t) (write-at t) write.Post
 write-write-requires t c κs =
-    let s = c .before .before .before .before .before .before .before .before .before .before .before .before .before .before .before .before .before .before .before .before .before .before in
+    let s = c .before .before .before .before .before .before .before .before .before .before .before .before .before .before .before .before .before .before .before in
     let p = s .pre .1 in
     let own = c .before .before .read .ensures in
     let other = c .before .read2 .ensures in
@@ -116,21 +116,21 @@ write-write-requires t c κs =
 
 write-add-result : (t : ℕ) → write-lts.Need-add-result (claims t) (write-at t) write.Post
 write-add-result t c =
-    let s = c .before .before .before .before .before .before .before .before .before .before .before .before .before .before .before .before .before .before .before .before .before .before .before .before .before in
+    let s = c .before .before .before .before .before .before .before .before .before .before .before .before .before .before .before .before .before .before .before .before .before .before in
     let l = rest-long (s .args .out .now) (c .before .before .before .before .before .before .before .next .result .code) (room t (c .before .before .before .before .before .before .before)) in
-    let bound = s .good .1 .1 .1 .1 .1 .1 .1 .1 .1 .1 .1 .1 .1 .1 .1 .0 in
-    let n = wrote-short (c .before .before .write .ensures) (c .before .before .write .kept .1 .1 .1 .1 .1 .1 .1 .1 .1 .1 .1 .1 .1 .1 .1 .0) in
+    let bound = s .good .1 .1 .1 .1 .1 .1 .1 .1 .1 .1 .1 .0 in
+    let n = wrote-short (c .before .before .write .ensures) (c .before .before .write .kept .1 .1 .1 .1 .1 .1 .1 .1 .1 .1 .1 .0) in
     let h = room t (c .before .before .before .before .before .before .before) in
     search needs
 
 write-same-length : (t : ℕ) → write-lts.Need-same-length (claims t) (write-at t) write.Post
-write-same-length t c = laid-long (c .before .before .before .before .before .before .before .before .before .before .before .before .before .before .before .before .before .before .before .before .before .before .before .before .before .args .out .now) (c .before .before .write .last .1 .1 .1 .1 .1 .1 .1 .1 .1 .1 .1 .1 .1 .1 .1 .0) _ (room t (c .before .before .before .before .before .before .before)) (c .before .before .write .kept .1 .1 .1 .1 .1 .1 .1 .1 .1 .1 .1 .1 .1 .1 .1 .0)
+write-same-length t c = laid-long (c .before .before .before .before .before .before .before .before .before .before .before .before .before .before .before .before .before .before .before .before .before .before .args .out .now) (c .before .before .write .last .1 .1 .1 .1 .1 .1 .1 .1 .1 .1 .1 .0) _ (room t (c .before .before .before .before .before .before .before)) (c .before .before .write .kept .1 .1 .1 .1 .1 .1 .1 .1 .1 .1 .1 .0)
 
 write-returns-2 : (t : ℕ) → write-lts.Need-returns-2 (claims t) (write-at t) write.Post
 write-returns-2 t c =
-    let s = c .before .before .before .before .before .before .before .before .before .before .before .before .before .before .before .before .before .before .before .before .before .before .before .before .before in
+    let s = c .before .before .before .before .before .before .before .before .before .before .before .before .before .before .before .before .before .before .before .before .before .before in
     let p = s .pre .1 in
-    wrote-next (s .args .x .now) (s .args .y .now) _ _ _ _ (p .1 .1 .0 .0 .closed) (p .1 .1 .0 .1 .closed) (p .1 .0) (not-end t (c .before .before .before .before .before .before .before)) (s .args .out .now) (c .before .before .write .last .1 .1 .1 .1 .1 .1 .1 .1 .1 .1 .1 .1 .1 .1 .1 .0) (room t (c .before .before .before .before .before .before .before)) (c .before .before .before .before .before .before .before .next .ensures) (c .before .before .before .before .before .read .ensures .1 .0) (c .before .before .before .before .read2 .ensures .1 .0) (c .before .before .write .ensures)
+    wrote-next (s .args .x .now) (s .args .y .now) _ _ _ _ (p .1 .1 .0 .0 .closed) (p .1 .1 .0 .1 .closed) (p .1 .0) (not-end t (c .before .before .before .before .before .before .before)) (s .args .out .now) (c .before .before .write .last .1 .1 .1 .1 .1 .1 .1 .1 .1 .1 .1 .0) (room t (c .before .before .before .before .before .before .before)) (c .before .before .before .before .before .before .before .next .ensures) (c .before .before .before .before .before .read .ensures .1 .0) (c .before .before .before .before .read2 .ensures .1 .0) (c .before .before .write .ensures)
 
 pub +write-spec : {M : Type 1} → statement M
 +write-spec = close μ-write λ t. write-lts.spec (claims t) (write-at t) write.Post

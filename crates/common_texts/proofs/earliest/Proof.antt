@@ -102,18 +102,20 @@ earliest-laid-requires c κs =
     let few = p .1 .0 in
     let lx = c .before .before .before .before .before .before .before .before .before .before .before .before .before .before .before .before .before .before .before .before .before .before .before .before .before .before .before .before .before .before .before .before .lay .ensures in
     let ly = c .before .before .before .before .before .before .before .before .before .before .before .before .before .before .before .before .before .before .before .before .before .before .lay2 .ensures in (
-      record {
-        own = record {
+      (
+        record {
           whole = p .0 .0;
           lay = lx .1;
           zones-long = let a = c .before .before .before .before .before .before .before .before .zones-x3 in let b = c .before .before .before .before .before .before .before .before .before .before .before .before .before .before .before .before .before .before .before .before .before .before .before .before .before .before .before .before .before .before .before .zones-x2 in let d = c .before .before .before .before .before .before .before .before .before .before .before .before .before .before .before .before .before .before .before .before .before .before .before .before .before .before .before .before .before .before .before .before .before .before .before .zones-x in let e = c .before .before .before .before .before .before .before .before .before .before .before .before .before .before .before .before .before .before .before .before .before .before .before .before .before .before .before .before .before .before .before .before .before .before .before .before .before .before .blank .ensures in search needs;
           ends-long = let a = c .before .before .before .before .before .before .before .ends-x3 in let b = c .before .before .before .before .before .before .before .before .before .before .before .before .before .before .before .before .before .before .before .before .before .before .before .before .before .before .before .before .before .before .ends-x2 in let d = c .before .before .before .before .before .before .before .before .before .before .before .before .before .before .before .before .before .before .before .before .before .before .before .before .before .before .before .before .before .before .before .before .before .before .ends-x in let e = c .before .before .before .before .before .before .before .before .before .before .before .before .before .before .before .before .before .before .before .before .before .before .before .before .before .before .before .before .before .before .before .before .before .before .before .before .before .blank2 .ensures in search needs;
           slots-long = let a = c .before .before .before .before .before .before .slots-x3 in let b = c .before .before .before .before .before .before .before .before .before .before .before .before .before .before .before .before .before .before .before .before .before .before .before .before .before .before .before .before .before .slots-x2 in let d = c .before .before .before .before .before .before .before .before .before .before .before .before .before .before .before .before .before .before .before .before .before .before .before .before .before .before .before .before .before .before .before .before .before .slots-x in let e = c .before .before .before .before .before .before .before .before .before .before .before .before .before .before .before .before .before .before .before .before .before .before .before .before .before .before .before .before .before .before .before .before .before .before .before .before .blank3 .ensures in search needs;
-        };
-        other = record { whole = p .0 .1; lay = ly .1; zones-long = search needs; ends-long = search needs; slots-long = search needs };
-        table = c .before .before .before .before .before .before .before .before .before .before .before .back .ensures .0;
-      },
-      ((lx .0, ly .0), p .1 .1),
+        },
+        record { whole = p .0 .1; lay = ly .1; zones-long = search needs; ends-long = search needs; slots-long = search needs },
+      ),
+      (
+        c .before .before .before .before .before .before .before .before .before .before .before .back .ensures .0,
+        ((lx .0, ly .0), p .1 .1),
+      ),
     )
 
 same-length : tie.Need-same-length

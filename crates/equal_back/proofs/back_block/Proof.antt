@@ -1,61 +1,38 @@
--- `equal_back::back_block`: row by row, from the block's end to its start. Assumes nothing.
-use mathlib.Core.Path.{refl}
-use Prim.Native.Nat.{_≤_}
+-- `equal_back::back_block`: sets of one word are those words. Assumes nothing.
 use native.Mathlib.Omega.{arith}
-use Rattle.sets.specs.Set.{setOf}
-use Rattle.shapes.specs.Lent.{meant}
-use Rattle.rows.specs.Row.{rowIn}
-use Rattle.equal_back.specs.Back.{Whenever, RowsBack}
-use Rattle.equal_back.proofs.Rows.{rows-start, rows-more, rows-end}
+use Rattle.equal_forth.proofs.Rows.{together-as}
+use Rattle.equal_back.proofs.Words.{block-as}
 use borrow.Author.Needs.{needs}
 use Rattle.equal_back.proofs.back_block.Statement.{statement}
 use Rattle.equal_back.proofs.back_block.Tie as tie
 
-abbrev Inv-loop : tie.InvT-loop
-Inv-loop zones ends k mine waits b p rows stop got₀ o₀ got o =
-    (o ≤ b .upper) × Whenever (rowIn zones) (rowIn ends) k (setOf mine) (setOf waits) p (meant b) (RowsBack rows (setOf stop) o p (meant b) got₀ got)
+in-words-requires : tie.Need-in-words-requires
+in-words-requires c κs = search needs
 
-abbrev μ-loop : tie.MeasureT-loop
-μ-loop zones ends k mine waits b p rows stop got₀ o₀ got o = o
+add-if2 : tie.Need-add-if2
+add-if2 c = search needs
 
-loop-holds : tie.Need-loop-holds Inv-loop μ-loop
-loop-holds c = (omega arith, rows-start (c .before .before .before .before .args .rows .now) _ refl refl)
+back-word-requires : tie.Need-back-word-requires
+back-word-requires c κs =
+    let i = c .before .before .before in
+    let w = i .before .in-words .ensures (i .if1 .taken) in
+    let s = i .before .before .before .before .before .before .before .pre in
+    (s .0, (s .1 .0, (together-as (w .free-is) (w .stops-is) (s .1 .1 .0 .0), (search needs, s .1 .1 .1 .1, w .row-is))))
 
-sub-o : tie.Need-sub-o Inv-loop μ-loop
-sub-o c = search needs
+returns : tie.Need-returns
+returns c =
+    let i = c .before .before .before .before in
+    let w = i .before .in-words .ensures (i .if1 .taken) in
+    let a = i .before .before .before .before .before .before .before .args in
+    block-as (a .rows .now) (a .g) _ (w .mine-is) (w .waits-is) (c .back-word .ensures)
 
-add-row-at : tie.Need-add-row-at Inv-loop μ-loop
-add-row-at c = search needs
+back-wide-requires : tie.Need-back-wide-requires
+back-wide-requires c κs = search needs
 
-row-at-requires : tie.Need-row-at-requires Inv-loop μ-loop
-row-at-requires c κs = search needs
-
-back-row-requires : tie.Need-back-row-requires Inv-loop μ-loop
-back-row-requires c κs = let s = c .before .before .before .before .before .before .before .pre in let h = c .before .before .loop .inv .0 in let room = s .1 .1 .0 in (s .0, (s .1 .0, omega arith))
-
-loop-less : tie.Need-loop-less Inv-loop μ-loop
-loop-less c = search needs
-
-loop-again : tie.Need-loop-again Inv-loop μ-loop
-loop-again c =
-    let l = c .before .before .before .loop in
-    let h = l .inv .0 in
-    (omega arith, rows-more (c .before .before .before .before .before .before .before .before .args .rows .now) (l .o) _ _ _ (omega arith) (omega arith) (c .before .row-at .ensures) (l .inv .1) (c .back-row .ensures))
-
-returns : tie.Need-returns Inv-loop μ-loop
-returns c = let l = c .before .loop in rows-end (c .before .before .before .before .before .before .args .rows .now) _ _ (omega arith) (l .inv .1)
+returns-2 : tie.Need-returns-2
+returns-2 c = search needs
 
 pub back-block-spec : {M : Type 1} → statement M
 back-block-spec =
     tie.close
-    (tie.spec
-    Inv-loop
-    μ-loop
-    loop-holds
-    sub-o
-    add-row-at
-    row-at-requires
-    back-row-requires
-    loop-less
-    loop-again
-    returns)
+    (tie.spec in-words-requires add-if2 back-word-requires returns back-wide-requires returns-2)

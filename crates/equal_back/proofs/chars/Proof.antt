@@ -4,8 +4,8 @@ use borrow.Author.Needs.{needs}
 use Rattle.equal_back.proofs.chars.Statement.{statement}
 use Rattle.equal_back.proofs.chars.Tie as tie
 
-joined-requires : tie.Need-joined-requires
-joined-requires c κs = search needs
+share-requires : tie.Need-share-requires
+share-requires c κs = search needs
 
 has-requires : tie.Need-has-requires
 has-requires c κs = search needs
@@ -13,15 +13,22 @@ has-requires c κs = search needs
 with-requires : tie.Need-with-requires
 with-requires c κs = search needs
 
+same-length : tie.Need-same-length
+same-length c = search needs
+
 returns : tie.Need-returns
-returns c = record {
-  own = setOf (c .before .before .joined .result);
-  matched = c .before .before .joined .ensures;
-  end = c .before .has .result;
-  tells = c .before .has .ensures;
-  with = c .with .ensures .0;
-  without = c .with .ensures .1;
-}
+returns c =
+    let s = c .before .before .before .before .share in (
+      record {
+        own = setOf (s .result);
+        matched = s .ensures .0;
+        end = c .before .has .result;
+        tells = c .before .has .ensures;
+        with = c .with .ensures .0;
+        without = c .with .ensures .1;
+      },
+      s .ensures .1,
+    )
 
 pub chars-spec : {M : Type 1} → statement M
-chars-spec = tie.close (tie.spec joined-requires has-requires with-requires returns)
+chars-spec = tie.close (tie.spec share-requires has-requires with-requires same-length returns)

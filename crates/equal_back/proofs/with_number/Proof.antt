@@ -19,11 +19,11 @@ returns c =
     let x = c .before .single .ensures in
     exactly-as
     (λ e h. ⊎-elim (λ a. inl a) (λ a. inr (c .before .before .if1 .taken, x .so e a)) h)
-    (λ e h. ⊎-elim (λ a. inl a) (λ a. inr (x .mark e (a .1))) h)
+    (λ e h. ⊎-elim (λ a. inl a) (λ a. inr (x .has e (a .1))) h)
     (either-exactly (setOf (c .before .before .before .args .s)) (setOf (c .before .single .result)) (c .either .ensures))
 
 returns-2 : tie.Need-returns-2
-returns-2 c = record { so = λ e h. inl h; mark = λ e h. ⊎-elim (λ a. a) (λ a. absurd (true≢false (sym (a .0) ∙ c .if1 .left))) h }
+returns-2 c = record { so = λ e h. inl h; has = λ e h. ⊎-elim (λ a. a) (λ a. absurd (true≢false (sym (a .0) ∙ c .if1 .left))) h }
 
 pub with-number-spec : {M : Type 1} → statement M
 with-number-spec = tie.close (tie.spec single-requires either-requires returns returns-2)

@@ -1,93 +1,50 @@
--- `equal_forth::forth_block`: each row is the closure of what enters it; one character on, or the end of the run, enters the next. Assumes nothing.
-use mathlib.Core.Path.{_≡_}
-use Prim.Native.Nat.{_-_, _≤_}
-use native.Mathlib.Omega.{arith}
-use Rattle.sets.specs.Set.{setOf}
-use Rattle.shapes.specs.Lent.{meant}
-use Rattle.rows.specs.Row.{rowIn}
-use Rattle.equal_forth.specs.Forth.{RowsTo, Follows, RowsKept}
-use Rattle.equal_forth.proofs.Rows.{rows-none, rows-more, rows-block, rows-end, before-none, before-more}
+-- `equal_forth::forth_block`: sets of one word are those words. Assumes nothing.
+use Rattle.equal_forth.proofs.Rows.{together-as, follows-as}
 use borrow.Author.Needs.{needs}
 use Rattle.equal_forth.proofs.forth_block.Statement.{statement}
 use Rattle.equal_forth.proofs.forth_block.Tie as tie
 
-abbrev Inv-loop : tie.InvT-loop
-Inv-loop zones ends k mine waits b p rows₀ upper enter₀ stopped₀ o₀ rows enter stopped o =
-    (upper ≡ b .upper) × (o ≤ upper) × RowsKept p rows₀ rows
-    × Follows (rowIn zones) (rowIn ends) k (setOf mine) (setOf waits) p (meant b) (setOf enter₀) (λ X Y. RowsTo X Y p (meant b) o rows (setOf enter) (setOf stopped))
+in-words-requires : tie.Need-in-words-requires
+in-words-requires c κs = search needs
 
-abbrev μ-loop : tie.MeasureT-loop
-μ-loop zones ends k mine waits b p rows₀ upper enter₀ stopped₀ o₀ rows enter stopped o = upper - o
+forth-word-requires : tie.Need-forth-word-requires
+forth-word-requires c κs =
+    let i = c .before .before .before .before .before in
+    let w = i .before .in-words .ensures (i .if1 .taken) in
+    let s = i .before .before .before .before .before .pre in
+    (s .0, (s .1 .0, (together-as (w .free-is) (w .stops-is) (s .1 .1 .0), (s .1 .1 .1 .0, s .1 .1 .1 .1, search needs))))
 
-none-requires : tie.Need-none-requires Inv-loop μ-loop
-none-requires c κs = search needs
+word-set-requires : tie.Need-word-set-requires
+word-set-requires c κs = search needs
 
-loop-holds : tie.Need-loop-holds Inv-loop μ-loop
-loop-holds c = (search needs, search needs, before-none _, record { holds = λ X Y z k m x. rows-none _ (c .none .ensures) x })
-
-forth-requires : tie.Need-forth-requires Inv-loop μ-loop
-forth-requires c κs = search needs
-
-add-put-row : tie.Need-add-put-row Inv-loop μ-loop
-add-put-row c = search needs
-
-put-row-requires : tie.Need-put-row-requires Inv-loop μ-loop
-put-row-requires c κs = search needs
-
-with-requires : tie.Need-with-requires Inv-loop μ-loop
-with-requires c κs = search needs
-
-onward-requires : tie.Need-onward-requires Inv-loop μ-loop
-onward-requires c κs = search needs
-
-add-o : tie.Need-add-o Inv-loop μ-loop
-add-o c = search needs
-
-loop-less : tie.Need-loop-less Inv-loop μ-loop
-loop-less c = search needs
-
-loop-again : tie.Need-loop-again Inv-loop μ-loop
-loop-again c =
-    let w = c .before in
-    let u = w .before .before .before .before in
-    let t = u .before .before in
-    let l = t .before .before .loop in (
-      search needs,
-      omega arith,
-      before-more (omega arith) (l .inv .2) (u .put-row .ensures),
-      record {
-        holds = λ X Y z k m x. rows-more (setOf _) (setOf _) (setOf _) z k m (omega arith) (l .inv .3 .holds X Y z k m x) (t .forth .ensures) (u .put-row .ensures)
-            (w .with .ensures .0) (w .with .ensures .1) (c .onward .ensures);
-      },
-    )
-
-either-requires : tie.Need-either-requires Inv-loop μ-loop
-either-requires c κs = search needs
-
-same-length : tie.Need-same-length Inv-loop μ-loop
+same-length : tie.Need-same-length
 same-length c = search needs
 
-returns : tie.Need-returns Inv-loop μ-loop
+returns : tie.Need-returns
 returns c =
-    let l = c .before .before .loop in
-    (record { holds = λ X Y z k m x. rows-block k (rows-end (let e : l .o ≡ _ = omega arith in e) (l .inv .3 .holds X Y z k m x)) (c .either .ensures) }, l .inv .2)
+    let f = c .before .before .before in
+    let i = f .before .before .before .before .before .before in
+    let w = i .before .in-words .ensures (i .if1 .taken) in
+    (follows-as (w .mine-is) (w .waits-is) (w .row-is) (c .word-set .ensures .0) (f .forth-word .ensures .0), f .forth-word .ensures .1)
+
+forth-wide-requires : tie.Need-forth-wide-requires
+forth-wide-requires c κs = search needs
+
+same-length-2 : tie.Need-same-length-2
+same-length-2 c = search needs
+
+returns-2 : tie.Need-returns-2
+returns-2 c = search needs
 
 pub forth-block-spec : {M : Type 1} → statement M
 forth-block-spec =
     tie.close
     (tie.spec
-    Inv-loop
-    μ-loop
-    none-requires
-    loop-holds
-    forth-requires
-    add-put-row
-    put-row-requires
-    with-requires
-    onward-requires
-    add-o
-    loop-less
-    loop-again
-    either-requires
+    in-words-requires
+    forth-word-requires
+    word-set-requires
     same-length
-    returns)
+    returns
+    forth-wide-requires
+    same-length-2
+    returns-2)

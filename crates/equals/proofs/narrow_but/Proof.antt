@@ -1,22 +1,17 @@
--- `equals::narrow_but`: there is room for two rows of each of 32 blocks. Assumes nothing.
+-- `equals::narrow_but`: by the size of the two. Assumes nothing.
+use native.Mathlib.Omega.{arith}
 use borrow.Author.Needs.{needs}
 use Rattle.equals.proofs.narrow_but.Statement.{statement}
 use Rattle.equals.proofs.narrow_but.Tie as tie
 
-blank-requires : tie.Need-blank-requires
-blank-requires c κs = search needs
+total-upper-requires : tie.Need-total-upper-requires
+total-upper-requires c κs = search needs
 
-blank-requires-2 : tie.Need-blank-requires-2
-blank-requires-2 c κs = search needs
-
-slice-aggregate-narrow-rows : tie.Need-slice-aggregate-narrow-rows
-slice-aggregate-narrow-rows c = search needs
-
-slice-aggregate-narrow-rows-2 : tie.Need-slice-aggregate-narrow-rows-2
-slice-aggregate-narrow-rows-2 c = search needs
-
-narrow-rows-requires : tie.Need-narrow-rows-requires
-narrow-rows-requires c κs = let s = c .before .before .before .before .before .before .before .before .before .before .pre in (s .0, ((search needs, search needs, s .1 .0 .1), s .1 .1))
+narrow-small-requires : tie.Need-narrow-small-requires
+narrow-small-requires c κs =
+    let s = (c .before .before .before .before .before .before .before .before .before .before) .pre in
+    let total = (c .before .before .before) .total-upper .ensures in
+    (s .0, ((search needs, search needs, omega arith), s .1 .1))
 
 same-length : tie.Need-same-length
 same-length c = search needs
@@ -27,15 +22,28 @@ same-length-2 c = search needs
 returns : tie.Need-returns
 returns c = search needs
 
+narrow-big-requires : tie.Need-narrow-big-requires
+narrow-big-requires c κs = search needs
+
+same-length-3 : tie.Need-same-length-3
+same-length-3 c = search needs
+
+same-length-4 : tie.Need-same-length-4
+same-length-4 c = search needs
+
+returns-2 : tie.Need-returns-2
+returns-2 c = search needs
+
 pub narrow-but-spec : {M : Type 1} → statement M
 narrow-but-spec =
     tie.close
     (tie.spec
-    blank-requires
-    blank-requires-2
-    slice-aggregate-narrow-rows
-    slice-aggregate-narrow-rows-2
-    narrow-rows-requires
+    total-upper-requires
+    narrow-small-requires
     same-length
     same-length-2
-    returns)
+    returns
+    narrow-big-requires
+    same-length-3
+    same-length-4
+    returns-2)

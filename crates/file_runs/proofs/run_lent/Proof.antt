@@ -4,8 +4,8 @@ use native.Mathlib.Omega.{arith}
 use lib.Seq.{length-take-le}
 use Rattle.file_runs.specs.Promise.RunRefused.{no-book}
 use Rattle.file_runs.proofs.Ends.{file-of}
-use Rattle.files.specs.Promise.{ReadPromise}
-use Rattle.files.proofs.Ready.{Ready, ready}
+use Rattle.file_books.specs.Promise.{ReadPromise}
+use Rattle.file_books.proofs.Ready.{Ready, ready}
 use borrow.Author.Needs.{needs}
 use Rattle.file_runs.proofs.run_lent.Statement.{statement}
 use Rattle.file_runs.proofs.run_lent.Tie as tie

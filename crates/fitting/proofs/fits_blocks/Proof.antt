@@ -1,104 +1,49 @@
--- `fitting::fits_blocks`: the row of the blocks from i on, from the last block to the first. Assumes nothing.
-use mathlib.Core.Path.{_≡_, refl, sym, _∙_, subst}
-use mathlib.Core.List.{List, _∷_}
-use Prim.Native.Nat.{ℕ, _+_, _-_, _/_, _≤_, _<_}
+-- `fitting::fits_blocks`: by a table with room for the text. Assumes nothing.
+use mathlib.Core.Path.{refl}
+use mathlib.Core.Logic.{inl, inr}
 use native.Mathlib.Omega.{arith}
-use borrow.Author.Needs.{needs, zero≤}
-use lib.ListN.{length, drop}
-use Rattle.bases.specs.Base.{Holds}
-use Rattle.sets.specs.Set.{setOf}
-use Rattle.sets.proofs.Exact.{both-exactly, held-under}
-use Rattle.shapes.specs.Shape.{Block, Sound}
-use Rattle.shapes.specs.Lent.{shapeOf, meant}
-use Rattle.shapes.proofs.Lent.{shape-from, none-left, block-sound}
-use Rattle.fitting.specs.Rows.{Marked, SeenTo, Row}
-use Rattle.fitting.proofs.Rows.{row-last}
-use Rattle.fitting.proofs.Marks.{held-places}
+use borrow.Author.Needs.{needs}
 use Rattle.fitting.proofs.fits_blocks.Statement.{statement}
 use Rattle.fitting.proofs.fits_blocks.Tie as tie
 
-block-then : {b b′ : Block} {i j : ℕ} (s : List Block) {r : List Block} → b ≡ b′ → i ≡ j → r ≡ b′ ∷ drop i s → b ∷ drop j s ≡ r
-block-then s p q e = sym (e ∙ (λ m. sym p m ∷ drop (q m) s))
+slice-aggregate-add-places : tie.Need-slice-aggregate-add-places
+slice-aggregate-add-places c = search needs
 
-abbrev Inv-loop : tie.InvT-loop
-Inv-loop shape text marks seen row₀ i₀ row i =
-    (i ≤ length shape / 4) × Marked text marks × SeenTo text (length text) (setOf seen) × Row (drop i (shapeOf shape)) text (setOf row)
+add-places-requires : tie.Need-add-places-requires
+add-places-requires c κs = (c .before .before .before .before .pre .1, (c .before .if1 .taken, refl))
 
-abbrev μ-loop : tie.MeasureT-loop
-μ-loop shape text marks seen row₀ i₀ row i = i
+slice-aggregate-fits-by : tie.Need-slice-aggregate-fits-by
+slice-aggregate-fits-by c = search needs
 
-mark-requires : tie.Need-mark-requires Inv-loop μ-loop
-mark-requires c κs = (c .before .before .before .pre .1, refl)
+fits-by-requires : tie.Need-fits-by-requires
+fits-by-requires c κs =
+    let a = c .before .before in
+    let s = a .before .before .before .before .before in
+    (s .pre .0, (s .pre .1, (inl (search needs), a .add-places .ensures)))
 
-single-requires : tie.Need-single-requires Inv-loop μ-loop
-single-requires c κs = omega arith
+returns : tie.Need-returns
+returns c = c .fits-by .ensures
 
-loop-holds : tie.Need-loop-holds Inv-loop μ-loop
-loop-holds c =
-    let m = c .before in
-    let a = m .before .before .before .before .args in
-    let last = row-last (a .text .now) (c .single .ensures) in
-    let row = subst (λ (s : List Block). Row s (a .text .now) (setOf (c .single .result))) (sym (none-left (a .shape .now))) last in
-    (search needs, m .mark .ensures .0, m .mark .ensures .1, row)
+slice-aggregate-add-places-2 : tie.Need-slice-aggregate-add-places-2
+slice-aggregate-add-places-2 c = search needs
 
-sub-i : tie.Need-sub-i Inv-loop μ-loop
-sub-i c = omega arith
+add-places-requires-2 : tie.Need-add-places-requires-2
+add-places-requires-2 c κs = let few = c .before .before .before .before .pre .1 in (few, (omega arith, refl))
 
-block-at-requires : tie.Need-block-at-requires Inv-loop μ-loop
-block-at-requires c κs = omega arith
+slice-aggregate-fits-by-2 : tie.Need-slice-aggregate-fits-by-2
+slice-aggregate-fits-by-2 c = search needs
 
-both-requires : tie.Need-both-requires Inv-loop μ-loop
-both-requires c κs = search needs
+fits-by-requires-2 : tie.Need-fits-by-requires-2
+fits-by-requires-2 c κs =
+    let a = c .before .before in
+    let s = a .before .before .before .before .before in
+    (s .pre .0, (s .pre .1, (inr (search needs), a .add-places2 .ensures)))
 
--- a base of two words holds no byte above 127
-low : (c : tie.After-block-at Inv-loop μ-loop) → (e : ℕ) → Holds (setOf (c .block-at .result .base)) e → e < 128
-low c = held-under 128 (c .block-at .ensures .1)
-
-places-requires : tie.Need-places-requires Inv-loop μ-loop
-places-requires c κs e h = let b = c .before in low (b .before) e (both-exactly (setOf (b .before .block-at .result .base)) _ (b .both .ensures) .so e h .0)
-
-row-before-requires : tie.Need-row-before-requires Inv-loop μ-loop
-row-before-requires c κs =
-    let b = c .before .before .before in
-    let l = b .before .before in
-    let s = l .before .before .before .before .before .before in
-    subst Sound (sym (b .block-at .ensures .0)) (block-sound (s .args .shape .now) (l .loop .i - 1) (omega arith) (s .pre .0 .sound))
-
-loop-less : tie.Need-loop-less Inv-loop μ-loop
-loop-less c = omega arith
-
-loop-again : tie.Need-loop-again Inv-loop μ-loop
-loop-again c =
-    let p = c .before in
-    let x = p .before .before in
-    let b = x .before in
-    let l = b .before .before in
-    let a = l .before .before .before .before .before .before .args in
-    let t = a .text .now in
-    let held = held-places t (l .before .before .mark .last .1 .0) _ _ (l .loop .inv .1) (l .loop .inv .2) (low b) (x .both .ensures) (p .places .ensures) in
-    let back : l .loop .i - 1 + 1 ≡ l .loop .i = omega arith in
-    let blocks : meant (b .block-at .result) ∷ drop (l .loop .i) (shapeOf (a .shape .now)) ≡ drop (l .loop .i - 1) (shapeOf (a .shape .now))
-    = block-then (shapeOf (a .shape .now)) (b .block-at .ensures .0) back (shape-from (a .shape .now) (l .loop .i - 1) (omega arith)) in (
-      omega arith,
-      l .loop .inv .1,
-      l .loop .inv .2,
-      subst (λ (s : List Block). Row s t (setOf (c .row-before .result))) blocks (c .row-before .ensures _ t refl held (l .loop .inv .3)),
-    )
-
-has-requires : tie.Need-has-requires Inv-loop μ-loop
-has-requires c κs = search needs
-
-returns : tie.Need-returns Inv-loop μ-loop
-returns c =
-    let l = c .before .before in
-    let a = l .before .before .before .before .before .before .args in
-    let first : l .loop .i ≡ 0 = omega arith in
-    let row : Row (shapeOf (a .shape .now)) (a .text .now) (setOf (l .loop .row))
-    = subst (λ (i : ℕ). Row (drop i (shapeOf (a .shape .now))) (a .text .now) (setOf (l .loop .row))) first (l .loop .inv .3) in
-    record { so = λ e. row .so 0 (c .has .ensures .so e) .1; not-so = λ e f. c .has .ensures .not-so e (row .mark 0 (zero≤, f)) }
+returns-2 : tie.Need-returns-2
+returns-2 c = c .fits-by2 .ensures
 
 pub fits-blocks-spec : {M : Type 1} → statement M
 fits-blocks-spec =
     tie.close
-    (tie.spec Inv-loop μ-loop mark-requires single-requires loop-holds sub-i block-at-requires both-requires places-requires row-before-requires
-    loop-less loop-again has-requires returns)
+    (tie.spec slice-aggregate-add-places add-places-requires slice-aggregate-fits-by fits-by-requires returns
+    slice-aggregate-add-places-2 add-places-requires-2 slice-aggregate-fits-by-2 fits-by-requires-2 returns-2)

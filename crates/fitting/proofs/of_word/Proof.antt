@@ -8,17 +8,17 @@ use lib.Count.{trailingZeros}
 use Rattle.bases.specs.Base.{Least}
 use Rattle.sets.specs.Set.{setOf}
 use Rattle.sets.proofs.Words.{lowest-bit}
-use Rattle.rows.specs.Row.{rowIn}
+use Rattle.fitting.specs.Rows.{rowOf}
 use Rattle.fitting.proofs.Lowest.{fewer-left}
-use Rattle.fitting.proofs.Marks.{Picking, picking-none, picking-more, picking-done}
+use Rattle.fitting.proofs.Table.{Picking, picking-none, picking-more, picking-done}
 use Rattle.fitting.proofs.of_word.Statement.{statement}
 use Rattle.fitting.proofs.of_word.Tie as tie
 
 abbrev Inv-loop : tie.InvT-loop
-Inv-loop word from marks left₀ r₀ left r = (left ≤ word) × Picking (λ e. rowIn marks (from + e)) word left (setOf r)
+Inv-loop word from table left₀ r₀ left r = (left ≤ word) × Picking (λ e. rowOf table (from + e)) word left (setOf r)
 
 abbrev μ-loop : tie.MeasureT-loop
-μ-loop word from marks left₀ r₀ left r = left
+μ-loop word from table left₀ r₀ left r = left
 
 none-requires : tie.Need-none-requires Inv-loop μ-loop
 none-requires c κs = search needs
@@ -29,16 +29,16 @@ loop-holds c = (search needs, picking-none _ _ (c .none .ensures))
 -- the lowest number left
 found : (c : tie.In-loop Inv-loop μ-loop)
     → Least (c .before .loop .left) (trailingZeros 64 (c .before .loop .left)) × (trailingZeros 64 (c .before .loop .left) < 64)
-found c = lowest-bit _ (let w = c .before .before .before .fits .word .fits in omega arith) (c .loop-test .taken)
+found c = lowest-bit _ (let w = c .before .before .before .before .fits .word .fits in omega arith) (c .loop-test .taken)
 
 cast-e : tie.Need-cast-e Inv-loop μ-loop
 cast-e c = let l = found c .1 in omega arith
 
-add-row-at : tie.Need-add-row-at Inv-loop μ-loop
-add-row-at c = let l = found (c .before) .1 in omega arith
+add-row-of : tie.Need-add-row-of Inv-loop μ-loop
+add-row-of c = let l = found c .1 in omega arith
 
-row-at-requires : tie.Need-row-at-requires Inv-loop μ-loop
-row-at-requires c κs = let l = found (c .before) .1 in search needs
+row-of-requires : tie.Need-row-of-requires Inv-loop μ-loop
+row-of-requires c κs = let l = found c .1 in (c .before .before .before .before .pre .1, omega arith)
 
 either-requires : tie.Need-either-requires Inv-loop μ-loop
 either-requires c κs = search needs
@@ -47,13 +47,13 @@ sub-left : tie.Need-sub-left Inv-loop μ-loop
 sub-left c = omega arith
 
 loop-less : tie.Need-loop-less Inv-loop μ-loop
-loop-less c = fewer-left _ (c .before .before .before .loop-test .taken)
+loop-less c = fewer-left _ (c .before .before .loop-test .taken)
 
 loop-again : tie.Need-loop-again Inv-loop μ-loop
 loop-again c =
-    let t = c .before .before .before in
+    let t = c .before .before in
     let fewer = fewer-left _ (t .loop-test .taken) in
-    let added = c .either .ensures ∙ ap (bitOr (setOf (t .before .loop .r))) (c .before .row-at .ensures) in
+    let added = c .either .ensures ∙ ap (bitOr (setOf (t .before .loop .r))) (c .before .row-of .ensures) in
     (omega arith, picking-more _ _ (found t .0) added (t .before .loop .inv .1))
 
 returns : tie.Need-returns Inv-loop μ-loop
@@ -62,4 +62,4 @@ returns c = picking-done _ _ (c .loop-test .left) (c .before .loop .inv .1)
 pub of-word-spec : {M : Type 1} → statement M
 of-word-spec =
     tie.close
-    (tie.spec Inv-loop μ-loop none-requires loop-holds cast-e add-row-at row-at-requires either-requires sub-left loop-less loop-again returns)
+    (tie.spec Inv-loop μ-loop none-requires loop-holds cast-e add-row-of row-of-requires either-requires sub-left loop-less loop-again returns)

@@ -1,14 +1,14 @@
 -- `fitting::places`: those of either word. Assumes nothing.
 use borrow.Author.Needs.{needs}
-use Rattle.fitting.proofs.Marks.{picked-words}
+use Rattle.fitting.proofs.Table.{picked-words}
 use Rattle.fitting.proofs.places.Statement.{statement}
 use Rattle.fitting.proofs.places.Tie as tie
 
 of-word-requires : tie.Need-of-word-requires
-of-word-requires c κs = search needs
+of-word-requires c κs = (search needs, c .before .pre .1)
 
 of-word-requires-2 : tie.Need-of-word-requires-2
-of-word-requires-2 c κs = search needs
+of-word-requires-2 c κs = (search needs, c .before .before .pre .1)
 
 either-requires : tie.Need-either-requires
 either-requires c κs = search needs
@@ -16,8 +16,8 @@ either-requires c κs = search needs
 returns : tie.Need-returns
 returns c =
     let b = c .before in
-    let s = b .before .before in
-    picked-words _ (s .args .chars) (search needs) (search needs) (s .pre) (b .before .of-word .ensures) (b .of-word2 .ensures) (c .either .ensures)
+    let s = b .before .before .before in
+    picked-words _ (s .args .chars) (search needs) (search needs) (s .pre .0) (b .before .of-word .ensures) (b .of-word2 .ensures) (c .either .ensures)
 
 pub places-spec : {M : Type 1} → statement M
 places-spec = tie.close (tie.spec of-word-requires of-word-requires-2 either-requires returns)

@@ -15,7 +15,7 @@ returns : tie.Need-returns
 returns c =
     let d = c .before .down in
     let down = down-exactly _ (d .ensures) in
-    exactly-as (λ p h. (h .1, down .so p (h .0))) (λ p h. (down .mark p (h .1), h .0)) (both-exactly (setOf (d .result)) _ (c .both .ensures))
+    exactly-as (λ p h. (h .1, down .so p (h .0))) (λ p h. (down .has p (h .1), h .0)) (both-exactly (setOf (d .result)) _ (c .both .ensures))
 
 pub step-spec : {M : Type 1} → statement M
 step-spec = tie.close (tie.spec down-requires both-requires returns)

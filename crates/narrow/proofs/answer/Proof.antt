@@ -1,7 +1,8 @@
--- `narrow::answer` is safe: the report's length is within the output, by what `report_of` ensures. Assumes nothing.
+-- `narrow::answer` hands on what `report_of` left at the start of the output: all of the report that is due. Assumes nothing.
 use borrow.Author.Needs.{needs}
 use mathlib.Core.Path.{sym}
 use lib.Seq.{length-take-le}
+use Rattle.file_runs.proofs.Lent.{reported-front}
 use Rattle.narrow.proofs.answer.Statement.{statement}
 use Rattle.narrow.proofs.answer.Tie as tie
 
@@ -14,11 +15,13 @@ report-of-requires c κs = search needs
 array-share-prefix-report : tie.Need-array-share-prefix-report
 array-share-prefix-report c = search needs
 
-slice-aggregate-write-report : tie.Need-slice-aggregate-write-report
-slice-aggregate-write-report c = sym (length-take-le _ _ (array-share-prefix-report (c .before)))
+slice-aggregate-print : tie.Need-slice-aggregate-print
+slice-aggregate-print c = sym (length-take-le _ _ (array-share-prefix-report (c .before)))
 
-write-report-requires : tie.Need-write-report-requires
-write-report-requires c κs = search needs
+print-requires : tie.Need-print-requires
+print-requires c κs =
+    let r = c .before .before .report-of .ensures in
+    record { verdict = r .verdict; due = r .due; whole = reported-front (r .reported) }
 
 returns : tie.Need-returns
 returns c = search needs
@@ -30,6 +33,6 @@ answer-spec =
     slice-aggregate-report-of
     report-of-requires
     array-share-prefix-report
-    slice-aggregate-write-report
-    write-report-requires
+    slice-aggregate-print
+    print-requires
     returns)

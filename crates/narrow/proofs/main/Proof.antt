@@ -1,7 +1,7 @@
 -- `narrow::main` is safe: what was read is within the buffer.
 use borrow.Author.Needs.{needs}
 use mathlib.Core.Path.{subst}
-use Rattle.narrow.specs.Within.{ReadWithin}
+use Rattle.streams.specs.Within.{ReadWithin}
 use Rattle.narrow.proofs.main.Statement.{statement}
 use Rattle.narrow.proofs.main.Tie as tie
 

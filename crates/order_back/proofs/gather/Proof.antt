@@ -13,15 +13,15 @@ use Rattle.order_back.proofs.gather.Statement.{statement}
 use Rattle.order_back.proofs.gather.Tie as tie
 
 abbrev Inv-loop : tie.InvT-loop
-Inv-loop d strict x zones ends slots u text m rows n chars₀ g₀ hi₀ chars g hi =
+Inv-loop d strict x zones ends slots spans runs u text m rows n chars₀ g₀ hi₀ chars g hi =
     (hi ≤ m + 1) × (hi ≤ n + 1) × (length chars ≡ length chars₀) × GathersFrom (slotAt (shapeOf x)) (guideOf d strict (take m text)) u slots (length x / 4) hi chars g
 
 abbrev μ-loop : tie.MeasureT-loop
-μ-loop d strict x zones ends slots u text m rows n chars₀ g₀ hi₀ chars g hi = hi
+μ-loop d strict x zones ends slots spans runs u text m rows n chars₀ g₀ hi₀ chars g hi = hi
 
 -- where the function began, from its loop
 abbrev start : tie.At-loop Inv-loop μ-loop → tie.Start Inv-loop μ-loop
-start l = l .before .before .before .before .before .before .before .before .before .before .before
+start l = l .before .before .before .before .before .before .before .before .before .before .before .before
 
 none-requires : tie.Need-none-requires Inv-loop μ-loop
 none-requires c κs = search needs
@@ -30,11 +30,11 @@ nothing-requires : tie.Need-nothing-requires Inv-loop μ-loop
 nothing-requires c κs = search needs
 
 top-requires : tie.Need-top-requires Inv-loop μ-loop
-top-requires c κs = let s = c .before .before .before .before .before .before .before .before .before in (s .pre .1 .0 .within, s .pre .0 .short)
+top-requires c κs = let s = c .before .before .before .before .before .before .before .before .before .before in (s .pre .1 .0 .within, s .pre .0 .short)
 
 loop-holds : tie.Need-loop-holds Inv-loop μ-loop
 loop-holds c =
-    let s = c .before .before .before .before .before .before .before .before .before .before in
+    let s = c .before .before .before .before .before .before .before .before .before .before .before in
     let t = c .top .ensures in
     let n = c .before .nothing .ensures in
     let limit = top-limit (s .pre .0 .plain .within) (s .pre .1 .0) (t .1 .0) (t .1 .1) in
@@ -53,7 +53,7 @@ group-requires c κs =
     let short = r .short in
     let room = r .room in
     let t = c .before .before .steady-from .ensures in (
-      record { laid = r .laid; size = r .size; plain = r .plain; short = r .short; rows-long = r .rows-long; room = omega arith },
+      record { laid = r .laid; all = r .all; spanned = r .spanned; size = r .size; plain = r .plain; short = r .short; rows-long = r .rows-long; room = omega arith },
       ((t .0, omega arith), (rows-upto (omega arith) (start l .pre .1 .0 .matched), (t .1 _ _, l .loop .inv .3 .pass .rests))),
     )
 

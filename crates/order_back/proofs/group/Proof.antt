@@ -23,32 +23,32 @@ may-end-requires c κs = search needs
 
 sorted-requires : tie.Need-sorted-requires
 sorted-requires c κs =
-    let r = c .before .before .before .before .before .before .before .before .before .before .pre .0 in
+    let r = c .before .before .before .before .before .before .before .before .before .before .before .pre .0 in
     let s = r .size in
     let t = r .laid .whole .short in
     (r .laid .slots-long, omega arith)
 
 states-requires : tie.Need-states-requires
 states-requires c κs =
-    let s = c .before .before .before .before .before .before .before .before .before .before .before in
+    let s = c .before .before .before .before .before .before .before .before .before .before .before .before in
     let r = s .pre .0 in
     let lo = s .pre .1 .0 .0 in
     let hi = s .pre .1 .0 .1 in
     let z = r .laid .zones-long in
     let e = r .laid .ends-long in
     let w = r .rows-long in
-    ((omega arith, omega arith), (laid-turn (r .laid) refl, (omega arith, omega arith)))
+    ((omega arith, omega arith), (laid-turn (r .laid) refl, ((r .all, r .spanned), (omega arith, omega arith))))
 
 give-some-requires : tie.Need-give-some-requires
 give-some-requires c κs =
-    let r = c .before .before .before .before .before .before .before .before .before .before .before .before .before .pre .0 in
+    let r = c .before .before .before .before .before .before .before .before .before .before .before .before .before .before .pre .0 in
     let s = r .laid .slots-long in
     let w = r .room in
     (omega arith, omega arith)
 
 give-some-requires-2 : tie.Need-give-some-requires-2
 give-some-requires-2 c κs =
-    let r = c .before .before .before .before .before .before .before .before .before .before .before .before .before .before .before .before .before .pre .0 in
+    let r = c .before .before .before .before .before .before .before .before .before .before .before .before .before .before .before .before .before .before .pre .0 in
     let s = r .laid .slots-long in
     let w = r .room in
     let g = c .before .before .before .give-some .ensures .long in
@@ -65,7 +65,7 @@ returns c =
     let m = o .before in
     let a = m .before in
     let b = a .before in
-    let s = b .before .before .before .before .before .before .before .before in
+    let s = b .before .before .before .before .before .before .before .before .before in
     let r = s .pre .0 in
     let lo = s .pre .1 .0 .0 in
     group-done (r .laid) refl (omega arith) (omega arith) (b .same-at .ensures) (a .apart-at .ensures)

@@ -12,30 +12,33 @@ use Rattle.order_forth.proofs.forth.Statement.{statement}
 use Rattle.order_forth.proofs.forth.Tie as tie
 
 abbrev Inv-loop : tie.InvT-loop
-Inv-loop x zones ends slots text m rows₀ k row₀ mask₀ q₀ rows row mask q = ForthTo x slots text m k rows (setOf row) (setOf mask) q
+Inv-loop x zones ends slots text m rows₀ k runs row₀ mask₀ q₀ rows row mask q = ForthTo x slots text m k rows (setOf row) (setOf mask) q
 
 abbrev μ-loop : tie.MeasureT-loop
-μ-loop x zones ends slots text m rows₀ k row₀ mask₀ q₀ rows row mask q = m - q
+μ-loop x zones ends slots text m rows₀ k runs row₀ mask₀ q₀ rows row mask q = m - q
 
 -- where the function began, from its loop
 abbrev start : tie.At-loop Inv-loop μ-loop → tie.Start Inv-loop μ-loop
-start l = l .before .before .before .before .before .before .before .before .before .before .before .before .before .before
+start l = l .before .before .before .before .before .before .before .before .before .before .before .before .before .before .before
 
 long : (l : tie.At-loop Inv-loop μ-loop) → length (l .loop .rows) ≡ length (start l .args .rows .now)
 long l = l .loop .inv .long ∙ sym (start l .pre .1 .1)
 
+all-runs-requires : tie.Need-all-runs-requires Inv-loop μ-loop
+all-runs-requires c κs =
+    let l = c .before .before .before .before .before .before .pre .0 in
+    let z = l .zones-long in
+    let e = l .ends-long in
+    (omega arith, omega arith)
+
 single-requires : tie.Need-single-requires Inv-loop μ-loop
 single-requires c κs = search needs
 
-forth-requires : tie.Need-forth-requires Inv-loop μ-loop
-forth-requires c κs =
-    let l = c .before .before .before .before .before .before .before .pre .0 in
-    let z = l .zones-long in
-    let e = l .ends-long in
-    ((omega arith, omega arith), laid-turn l refl)
+close-forth-requires : tie.Need-close-forth-requires Inv-loop μ-loop
+close-forth-requires c κs = search needs
 
 put-row-requires : tie.Need-put-row-requires Inv-loop μ-loop
-put-row-requires c κs = let l = c .before .before .before .before .before .before .before .before .before .pre .1 .1 in omega arith
+put-row-requires c κs = let l = c .before .before .before .before .before .before .before .before .before .before .pre .1 .1 in omega arith
 
 none-requires : tie.Need-none-requires Inv-loop μ-loop
 none-requires c κs = search needs
@@ -45,8 +48,9 @@ loop-holds c =
     let p = c .before .before .before in
     let f = p .before .before in
     let o = f .before in
-    let s = o .before .before .before .before .before .before .before in
-    forth-first (s .pre .0) _ _ refl (s .pre .1 .1) (o .single .ensures) (f .forth .ensures) (p .put-row .ensures)
+    let r = o .before in
+    let s = r .before .before .before .before .before .before .before in
+    forth-first (s .pre .0) _ _ refl (s .pre .1 .1) (o .single .ensures) (f .close-forth .ensures .holds _ _ _ (laid-turn (s .pre .0) refl) (r .all-runs .ensures)) (p .put-row .ensures)
 
 is-empty-requires : tie.Need-is-empty-requires Inv-loop μ-loop
 is-empty-requires c κs = search needs
@@ -70,13 +74,8 @@ both-requires c κs = search needs
 up-requires : tie.Need-up-requires Inv-loop μ-loop
 up-requires c κs = search needs
 
-forth-requires-2 : tie.Need-forth-requires-2 Inv-loop μ-loop
-forth-requires-2 c κs =
-    let l = c .before .before .before .before .before .before in
-    let d = l .loop .inv .blocks in
-    let z = start l .pre .0 .zones-long in
-    let e = start l .pre .0 .ends-long in
-    ((omega arith, omega arith), laid-turn (start l .pre .0) d)
+close-forth-requires-2 : tie.Need-close-forth-requires-2 Inv-loop μ-loop
+close-forth-requires-2 c κs = search needs
 
 add-q : tie.Need-add-q Inv-loop μ-loop
 add-q c =
@@ -105,7 +104,7 @@ loop-again c =
     let t = m .before .before .before in
     let l = t .before in
     forth-more (start l .pre .0) _ _ (l .loop .inv) (t .loop-test .taken) refl
-    (m .next-mask .ensures) (u .before .both .ensures) (u .up .ensures) (f .forth2 .ensures) (p .put-row2 .ensures)
+    (m .next-mask .ensures) (u .before .both .ensures) (u .up .ensures) (f .close-forth2 .ensures .holds _ _ _ (laid-turn (start l .pre .0) (l .loop .inv .blocks)) (l .before .before .before .before .before .before .before .before .all-runs .ensures)) (p .put-row2 .ensures)
 
 same-length-2 : tie.Need-same-length-2 Inv-loop μ-loop
 same-length-2 c = long (c .before)
@@ -119,8 +118,9 @@ forth-spec =
     (tie.spec
     Inv-loop
     μ-loop
+    all-runs-requires
     single-requires
-    forth-requires
+    close-forth-requires
     put-row-requires
     none-requires
     loop-holds
@@ -130,7 +130,7 @@ forth-spec =
     next-mask-requires
     both-requires
     up-requires
-    forth-requires-2
+    close-forth-requires-2
     add-q
     put-row-requires-2
     loop-less

@@ -14,8 +14,8 @@ both-requires c κs = search needs
 either-requires : tie.Need-either-requires
 either-requires c κs = search needs
 
-back-requires : tie.Need-back-requires
-back-requires c κs = search needs
+back-by-requires : tie.Need-back-by-requires
+back-by-requires c κs = search needs
 
 both-requires-2 : tie.Need-both-requires-2
 both-requires-2 c κs = search needs
@@ -29,10 +29,12 @@ both-requires-4 c κs = search needs
 returns : tie.Need-returns
 returns c =
     let b = c .before .before .before .before in
-    let s = b .before .before .before .before .before .before .args in
+    let t = b .before .before .before .before .before .before .before in
+    let s = t .args in
+    let closed = b .back-by .ensures in
     record {
       holds = λ X G U q z g v o. pass-state (setOf (s .clear)) (setOf (s .s .same)) (setOf (s .s .apart)) (setOf (s .s .over)) (setOf (s .row)) q z g v o
-          (b .before .before .before .down .ensures) (b .before .before .both .ensures) (b .before .either .ensures) (b .back .ensures .0) (b .back .ensures .1)
+          (b .before .before .before .down .ensures) (b .before .before .both .ensures) (b .before .either .ensures) (closed .0) (closed .1)
           (c .before .before .both2 .ensures) (c .before .both3 .ensures) (c .both4 .ensures);
     }
 
@@ -43,7 +45,7 @@ one-state-spec =
     down-requires
     both-requires
     either-requires
-    back-requires
+    back-by-requires
     both-requires-2
     both-requires-3
     both-requires-4

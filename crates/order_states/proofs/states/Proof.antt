@@ -11,10 +11,10 @@ use Rattle.order_states.proofs.states.Statement.{statement}
 use Rattle.order_states.proofs.states.Tie as tie
 
 abbrev Inv-loop : tie.InvT-loop
-Inv-loop zones ends k rows s lo hi g₀ q₀ g q = (lo ≤ q) × (q ≤ hi) × States (rowIn zones) (rowIn ends) k rows s q hi (setOf (g₀ .clear)) g
+Inv-loop zones ends k spans runs rows s lo hi g₀ q₀ g q = (lo ≤ q) × (q ≤ hi) × States (rowIn zones) (rowIn ends) k rows s q hi (setOf (g₀ .clear)) g
 
 abbrev μ-loop : tie.MeasureT-loop
-μ-loop zones ends k rows s lo hi g₀ q₀ g q = q - lo
+μ-loop zones ends k spans runs rows s lo hi g₀ q₀ g q = q - lo
 
 nothing-requires : tie.Need-nothing-requires Inv-loop μ-loop
 nothing-requires c κs = search needs

@@ -23,20 +23,11 @@ add-between-2 c = search needs
 between-requires : tie.Need-between-requires
 between-requires c κs = search needs
 
-add-below : tie.Need-add-below
-add-below c = search needs
-
 below-requires : tie.Need-below-requires
 below-requires c κs = search needs
 
-back-requires : tie.Need-back-requires
-back-requires c κs = search needs
-
-below-requires-2 : tie.Need-below-requires-2
-below-requires-2 c κs = search needs
-
 give-requires : tie.Need-give-requires
-give-requires c κs = let p = c .before .before .before .before .before .before .before .before .before .before .before .before .before .before .pre .0 in (p .2, p .3)
+give-requires c κs = search needs
 
 both-requires : tie.Need-both-requires
 both-requires c κs = search needs
@@ -56,13 +47,12 @@ same-length c = search needs
 returns-2 : tie.Need-returns-2
 returns-2 c =
     let g = c .before .before .before .before .before .before in
-    let a = g .before .before in
-    let b = a .before in
-    let n = b .before in
-    let d = n .before in
-    let known = freed-from (d .before .first .ensures .0) (d .between .ensures) (n .below .ensures) (b .back .ensures .0) (b .back .ensures .1)
-    (c .before .before .before .both .ensures) (c .before .before .either .ensures) (c .before .down .ensures) (c .either2 .ensures) (a .below2 .ensures) (g .give .ensures .0) in
-    (known, g .give .ensures .1)
+    let b = g .before .before in
+    let d = b .before in (
+      freed-from (d .before .first .ensures .0) (d .between .ensures) (c .before .before .before .both .ensures) (c .before .before .either .ensures) (c .before .down .ensures) (c .either2 .ensures)
+          (b .below .ensures) (g .give .ensures .0),
+      g .give .ensures .1,
+    )
 
 pub freed-spec : {M : Type 1} → statement M
 freed-spec =
@@ -74,10 +64,7 @@ freed-spec =
     add-between
     add-between-2
     between-requires
-    add-below
     below-requires
-    back-requires
-    below-requires-2
     give-requires
     both-requires
     either-requires

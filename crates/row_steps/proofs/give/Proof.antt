@@ -1,78 +1,42 @@
--- `row_steps::give`: the rows before j have what is given; from j on they are as they were. Assumes nothing.
-use mathlib.Core.Path.{_≡_}
-use mathlib.Core.Logic.{⊎-elim}
-use Prim.Native.Nat.{_-_, _≤_}
-use native.Mathlib.Omega.{arith}
-use Rattle.sets.specs.Set.{setOf}
-use Rattle.rows.specs.Row.{rowIn}
-use Rattle.row_steps.proofs.Steps.{Giving, giving-none, giving-so, giving-not, all-given, tells-met}
+-- `row_steps::give`: a row that its first word has is that word. Assumes nothing.
+use mathlib.Core.Path.{sym}
+use Rattle.row_steps.proofs.Steps.{given-as}
 use borrow.Author.Needs.{needs}
 use Rattle.row_steps.proofs.give.Statement.{statement}
 use Rattle.row_steps.proofs.give.Tie as tie
 
-abbrev Inv-loop : tie.InvT-loop
-Inv-loop row base rows given₀ k j₀ given j = (j ≤ k) × Giving (rowIn rows) (setOf row) (setOf base) given₀ given j
+is-word-requires : tie.Need-is-word-requires
+is-word-requires c κs = search needs
 
-abbrev μ-loop : tie.MeasureT-loop
-μ-loop row base rows given₀ k j₀ given j = k - j
+give-word-requires : tie.Need-give-word-requires
+give-word-requires c κs = search needs
 
-loop-holds : tie.Need-loop-holds Inv-loop μ-loop
-loop-holds c = (search needs, giving-none)
+same-length : tie.Need-same-length
+same-length c = search needs
 
-row-at-requires : tie.Need-row-at-requires Inv-loop μ-loop
-row-at-requires c κs = search needs
-
-meets-requires : tie.Need-meets-requires Inv-loop μ-loop
-meets-requires c κs = search needs
-
-row-at-requires-2 : tie.Need-row-at-requires-2 Inv-loop μ-loop
-row-at-requires-2 c κs = search needs
-
-either-requires : tie.Need-either-requires Inv-loop μ-loop
-either-requires c κs = search needs
-
-put-row-requires : tie.Need-put-row-requires Inv-loop μ-loop
-put-row-requires c κs = search needs
-
-add-j : tie.Need-add-j Inv-loop μ-loop
-add-j c = search needs
-
-loop-less : tie.Need-loop-less Inv-loop μ-loop
-loop-less c = search needs
-
-loop-again : tie.Need-loop-again Inv-loop μ-loop
-loop-again c =
-    let l = c .before .before .before .before .loop in
-    let tells = tells-met (c .before .before .row-at .ensures) (c .before .meets .ensures) in (
-      omega arith,
-      ⊎-elim
-          (λ w. giving-so (l .inv .1) (tells .so (w .0 .taken)) (w .3 .ensures) (w .4 .ensures) (w .5 .ensures) (w .8))
-          (λ w. giving-not (l .inv .1) (tells .not-so (w .0 .left)) (w .1))
-          (c .if1 .came),
-    )
-
-same-length : tie.Need-same-length Inv-loop μ-loop
-same-length c = c .before .loop .inv .1 .long
-
-returns : tie.Need-returns Inv-loop μ-loop
+returns : tie.Need-returns
 returns c =
-    let l = c .before .loop in
-    (all-given (let e : l .j ≡ c .before .before .before .before .args .k = omega arith in e) (l .inv .1), l .inv .1 .long)
+    let g = c .before .before in
+    let i = g .before .before in
+    (given-as (sym (i .before .is-word .ensures .0 (i .if1 .taken))) (g .give-word .ensures .0), g .give-word .ensures .1)
+
+give-wide-requires : tie.Need-give-wide-requires
+give-wide-requires c κs = search needs
+
+same-length-2 : tie.Need-same-length-2
+same-length-2 c = search needs
+
+returns-2 : tie.Need-returns-2
+returns-2 c = search needs
 
 pub give-spec : {M : Type 1} → statement M
 give-spec =
     tie.close
     (tie.spec
-    Inv-loop
-    μ-loop
-    loop-holds
-    row-at-requires
-    meets-requires
-    row-at-requires-2
-    either-requires
-    put-row-requires
-    add-j
-    loop-less
-    loop-again
+    is-word-requires
+    give-word-requires
     same-length
-    returns)
+    returns
+    give-wide-requires
+    same-length-2
+    returns-2)

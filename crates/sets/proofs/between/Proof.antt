@@ -22,8 +22,8 @@ returns c =
     let t = c .before .before .below .ensures in
     let s = c .before .below2 .ensures in
     exactly-as
-    (λ q h. (⊎-elim (λ l. absurd (h .1 (s .mark q l))) (λ l. l) (lt-or-le q p), t .so q (h .0)))
-    (λ q h. (t .mark q (h .1), λ m. let l = s .so q m in omega arith))
+    (λ q h. (⊎-elim (λ l. absurd (h .1 (s .has q l))) (λ l. l) (lt-or-le q p), t .so q (h .0)))
+    (λ q h. (t .has q (h .1), λ m. let l = s .so q m in omega arith))
     (c .without .ensures)
 
 pub between-spec : {M : Type 1} → statement M

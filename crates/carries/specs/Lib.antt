@@ -1,0 +1,2 @@
+-- What climbs through numbers without a gap.
+pub mod Climb

@@ -1,0 +1,3 @@
+-- The laws of a book that was read.
+pub mod Whole
+pub mod Ready

@@ -1,0 +1,2 @@
+-- What reading a book file promises.
+pub mod Promise

@@ -1,0 +1,2 @@
+-- What reading the input answers.
+pub mod Within

@@ -1,0 +1,2 @@
+-- The laws of one look.
+pub mod Look

@@ -1,0 +1,2 @@
+-- The laws of places of the quick sweep.
+pub mod Back
