@@ -1,68 +1,7 @@
-// The runner of a book: rules in book order, round after round, each on the shapes so far.
-use answers::Checked;
-use answers::Ran;
-use book_steps::Applied;
-ghost use Rattle.book_steps.specs.Step.{Running};
-ghost use Rattle.book_runs.specs.Rounds.{RunPromise};
-ghost use Rattle.book_runs.specs.Runner.{EndedSays};
+// The run of a book, rules in book order, round after round, each on the shapes so far: how it ends, definitions and laws.
 
 // How the rounds end: with stable numbers or with none; each with the applications made.
 pub enum Ended {
     Stable(u64),
     None(u64),
-}
-
-// The rounds, from the entered numbers.
-fn run_rounds(counts: &[u64], numbers: &mut [u64], rules: &[u64]) -> Ended
-    requires { ⌜ Running (now counts) (now numbers) (now rules) ⌝ }
-    ensures { λ r. ⌜ EndedSays (now (counts .entry)) (now (rules .entry)) (now (numbers .entry)) (now (numbers .exit)) r ⌝ }
-{
-    let n = rules.len() / rules::SIZE; // the rules of a round
-    let mut k = 0;
-    let mut changed = false;
-    let mut made = 0;
-    loop {
-        if k == n {
-            if !changed {
-                return Ended::Stable(made);
-            }
-            k = 0;
-            changed = false;
-        } else {
-            match book_applies::apply_rule(counts, numbers, rules, k) {
-                Applied::None => return Ended::None(made + 1),
-                Applied::Same => {
-                    k += 1;
-                    made += 1;
-                }
-                Applied::Changed => {
-                    k += 1;
-                    made += 1;
-                    changed = true;
-                }
-            }
-        }
-    }
-}
-
-// Runs a book: the final shapes are left in the lent blocks, or none, and then the blocks are as on entry.
-pub fn run_book(counts: &[u64], blocks: &mut [u64], rules: &[u64], work: &mut [u8]) -> Ran
-    ensures { λ r. ⌜ RunPromise (now (counts .entry)) (now (blocks .entry)) (now (rules .entry)) (now (work .entry)) (now (blocks .exit)) (now (work .exit)) r ⌝ }
-{
-    match book_checks::check_book(counts, blocks, rules, work.len()) {
-        Checked::Refused(r) => Ran::Refused(r),
-        Checked::Sound => {
-            pairs::clear(work);
-            let n = blocks.len();
-            let mut numbers = [0u64; 1024];
-            laying::lay(&mut numbers, 0, blocks);
-            match run_rounds(counts, &mut numbers[..n], rules) {
-                Ended::None(m) => Ran::None(m),
-                Ended::Stable(m) => {
-                    laying::lay(blocks, 0, &numbers[..n]);
-                    Ran::Stable(m)
-                }
-            }
-        }
-    }
 }

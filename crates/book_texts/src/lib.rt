@@ -68,7 +68,7 @@ fn check_text(counts: &[u64], blocks: &[u64], k: usize) -> Checked
     let range = books::range_of(counts, k);
     let from = range.from;
     let to = range.to;
-    shapes::check_blocks(&blocks[from..to], k as u64)
+    shape_checks::check_blocks(&blocks[from..to], k as u64)
 }
 
 // The same, text by text.

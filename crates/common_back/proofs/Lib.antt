@@ -1,3 +1,2 @@
 -- The laws of the pass from the ends that keeps its rows.
-pub mod Rows
 pub mod Pass

@@ -21,7 +21,8 @@ use Rattle.row_paths.specs.Rows.{Zones, LeadsOn, end, taken}
 use Rattle.row_paths.proofs.Left.{left-row}
 use Rattle.row_paths.proofs.Lent.{block-at}
 use Rattle.row_paths.proofs.Shapes.{free-within, held-within}
-use Rattle.common_back.specs.Back.{Whenever, BlockKept, RowsAfter, EndRows}
+use Rattle.common_back.specs.Back.{EndRows}
+use Rattle.common_blocks.specs.Rows.{Whenever, BlockKept, RowsAfter}
 
 -- The row has the positions of y whose base meets that of block h of x.
 abbrev MineIs : List ℕ → List ℕ → ℕ → ℕ → Type 0

@@ -30,7 +30,7 @@ pub fn common_text(x: &[u64], y: &[u64], work: &mut [u8], out: &mut [u8]) -> Sho
         Checked::Refused(r) => Shown::Refused(r),
         Checked::Sound => {
             pairs::clear(work);
-            common_texts::earliest(x, y, out)
+            common_rooms::earliest(x, y, out)
         }
     }
 }

@@ -23,10 +23,10 @@ use Rattle.row_paths.specs.Laid.{Laid}
 use Rattle.row_paths.proofs.Lent.{slot-rows-at}
 use Rattle.row_paths.proofs.Shapes.{held-within}
 use Rattle.common_back.specs.Back.{EndRows}
-use Rattle.common_next.specs.declared.Weighed.{Weighed}
-use Rattle.common_next.specs.Next.{Goes, none, Slotted}
-use Rattle.common_next.specs.Code.{Near, ChosenBy, Weighing, WeighedAll, Enough}
-use Rattle.common_next.proofs.Weighing.{least-more, may-as, settle}
+use Rattle.common_weighs.specs.declared.Weighed.{Weighed}
+use Rattle.common_weighs.specs.Next.{Goes, none, Slotted}
+use Rattle.common_weighs.specs.Code.{Near, ChosenBy, Weighing, WeighedAll, Enough}
+use Rattle.common_weighs.proofs.Weighing.{least-more, may-as, settle}
 
 -- those of P in a row
 pub members-of : (P : ℕ) {left row r : ℕ} → row ≡ r → left ≡ bitAnd P row → Exactly left (λ i. Holds P i × Holds r i)

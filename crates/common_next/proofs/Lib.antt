@@ -1,4 +1,2 @@
 -- The laws of one character more.
-pub mod Ends
-pub mod Weighing
 pub mod Blocks

@@ -1,4 +1,2 @@
 -- The laws of the earliest common text: from where both stand, and from their starts.
-pub mod Remains
-pub mod Part
 pub mod Starts

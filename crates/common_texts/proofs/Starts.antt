@@ -19,9 +19,9 @@ use Rattle.row_paths.specs.Laid.{Laid}
 use Rattle.row_paths.proofs.Laid.{laid-zones}
 use Rattle.common_back.specs.Back.{EndRows}
 use Rattle.common_next.specs.declared.Front.{Front}
-use Rattle.common_next.proofs.Ends.{ended-row, takes-char}
+use Rattle.common_weighs.proofs.Ends.{ended-row, takes-char}
 use Rattle.common_texts.specs.Earliest.{TextShown, NothingShown}
-use Rattle.common_texts.specs.Code.{Finishes, Meeting, Stands, Started, AtMostLeft, EarliestWritten}
+use Rattle.common_writes.specs.Code.{Finishes, Meeting, Stands, Started, AtMostLeft, EarliestWritten}
 
 -- ---- the start
 

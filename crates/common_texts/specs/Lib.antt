@@ -1,3 +1,2 @@
 -- The earliest common text: what it is, and what the function that writes it promises.
 pub mod Earliest
-pub mod Code

@@ -14,8 +14,8 @@ use Rattle.answers.specs.declared.Fit.{Fit}
 use Rattle.answers.specs.declared.Fit.the-variants.{Fits, Unfit, Refused as no-shape}
 use Rattle.answers.specs.declared.Written.{Written}
 use Rattle.answers.specs.declared.Written.the-variants.{Text, Refused as unwritten}
-use Rattle.extremes.specs.declared.Direction.{Direction}
-use Rattle.extremes.specs.Steps.{extreme}
+use Rattle.extreme_steps.specs.declared.Direction.{Direction}
+use Rattle.extreme_steps.specs.Steps.{extreme}
 use Rattle.extremes.specs.Extreme.{ExtremePromise, TextWritten}
 use Rattle.shapes.specs.Lent.{shapeOf, Accepted, ShapeRefused}
 use Rattle.shapes.proofs.Refused.{shape-one, shape-not}

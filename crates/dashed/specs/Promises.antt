@@ -12,7 +12,7 @@ use Rattle.answers.specs.declared.Swept.{Swept}
 use Rattle.answers.specs.declared.Written.{Written}
 use Rattle.book_runs.specs.Rounds.{RunPromise}
 use Rattle.common_calls.specs.Common.{ShowPromise}
-use Rattle.extremes.specs.declared.Direction.the-variants.{Least, Greatest}
+use Rattle.extreme_steps.specs.declared.Direction.the-variants.{Least, Greatest}
 use Rattle.extremes.specs.Extreme.{ExtremePromise}
 use Rattle.file_runs.specs.Promise.{FilePromise}
 use Rattle.fitting.specs.Fit.{FitPromise}

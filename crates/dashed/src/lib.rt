@@ -13,7 +13,7 @@ ghost use Rattle.dashed.specs.Promises.{CheckShape, FitsShape, Earlier, 
 pub fn check_shape(shape: &[u64]) -> Checked
     ensures { λ r. ⌜ CheckShape (now (shape .entry)) r ⌝ }
 {
-    shapes::check_lent(shape, 1)
+    shape_checks::check_lent(shape, 1)
 }
 
 // Whether a text, any bytes of any length, fits a shape.
@@ -145,7 +145,7 @@ pub fn common_text(x: &[u64], y: &[u64], work: &mut [u8], out: &mut [u8]) -> Sho
 pub fn run_book(counts: &[u64], blocks: &mut [u64], rules: &[u64], work: &mut [u8]) -> Ran
     ensures { λ r. ⌜ RunBook (now (counts .entry)) (now (blocks .entry)) (now (rules .entry)) (now (work .entry)) (now (blocks .exit)) (now (work .exit)) r ⌝ }
 {
-    book_runs::run_book(counts, blocks, rules, work)
+    book_calls::run_book(counts, blocks, rules, work)
 }
 
 // Runs a book file, any bytes, to its report, into an output of at least 16,384 bytes; the report's length. Refused are the file (9, 8), then its
@@ -153,7 +153,7 @@ pub fn run_book(counts: &[u64], blocks: &mut [u64], rules: &[u64], work: &mut [u
 pub fn run_file(file: &[u8], report: &mut [u8]) -> Written
     ensures { λ r. ⌜ RunFile (now (file .entry)) (now (report .entry)) (now (report .exit)) r ⌝ }
 {
-    file_runs::run_file(file, report)
+    file_calls::run_file(file, report)
 }
 
 // The call of a host that is written in C, exported under this name (include/wedgeotter.h): runs a book file as `run_file` does, with a lent work buffer of at least

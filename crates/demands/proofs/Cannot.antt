@@ -17,7 +17,7 @@ use Rattle.pairs.proofs.Pair.{narrow-not}
 use Rattle.sweep_steps.specs.Share.{sharesWithin, shares}
 use Rattle.sweep_steps.specs.Places.{before, later, forward}
 use Rattle.sweep_steps.specs.Steps.{cannot, pushLook, pushing, push, stretchLook, stretching, stretch, stretches, pushes, sweepOf}
-use Rattle.sweeps.specs.Read.{sweptOf}
+use Rattle.sweep_passes.specs.Read.{sweptOf}
 use Rattle.sweep_calls.proofs.Sweeping.{not-due}
 use Rattle.dashed.specs.Promises.{Sweep, NarrowPadded}
 use Rattle.demands.specs.Requests.{paddedField, bareField}

@@ -16,7 +16,7 @@ use Rattle.answers.specs.declared.Swept.{Swept}
 use Rattle.answers.specs.declared.Written.{Written}
 use Rattle.shapes.specs.Lent.{shapeOf, Accepted, ShapeRefused}
 use Rattle.shapes.proofs.Refused.{shape-one, shape-not}
-use Rattle.extremes.specs.declared.Direction.{Direction}
+use Rattle.extreme_steps.specs.declared.Direction.{Direction}
 use Rattle.extremes.specs.Extreme.{ExtremePromise}
 use Rattle.pairs.specs.Pair.{PairAccepted, Room, NarrowRefused}
 use Rattle.pairs.specs.Narrow.{NarrowPromise}

@@ -8,7 +8,7 @@ use native.Mathlib.Omega.{arith}
 use Rattle.answers.specs.declared.Narrowed.{Narrowed}
 use Rattle.answers.specs.declared.Shown.{Shown}
 use Rattle.answers.specs.declared.Written.{Written}
-use Rattle.extremes.specs.declared.Direction.the-variants.{Least}
+use Rattle.extreme_steps.specs.declared.Direction.the-variants.{Least}
 use Rattle.shapes.specs.Shape.{Block, Fits}
 use Rattle.shapes.specs.Lent.{shapeOf}
 use Rattle.shapes.proofs.Fits.{fits-length}

@@ -26,7 +26,7 @@ use Rattle.joins.specs.Refused.{JoinAccepted, JoinRoom, JoinRefused}
 use Rattle.common_calls.specs.Common.{ShowRoom, ShowRefused}
 use Rattle.sweep_calls.specs.Sweep.{SweepRefused}
 use Rattle.sweep_steps.specs.Steps.{sweepOf}
-use Rattle.sweeps.specs.Read.{sweptOf, outputOf}
+use Rattle.sweep_passes.specs.Read.{sweptOf, outputOf}
 use Rattle.rules.specs.Rule.{ruleCount, numbersOfAll}
 use Rattle.books.specs.Rules.{ruleOf, AllIn}
 use Rattle.books.specs.Refused.{BookAccepted, BookRefused}

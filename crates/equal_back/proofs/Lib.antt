@@ -1,4 +1,3 @@
 -- The laws of equality's second pass.
 pub mod Rows
 pub mod Pass
-pub mod Words

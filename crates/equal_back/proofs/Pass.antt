@@ -28,8 +28,10 @@ use Rattle.row_paths.proofs.Chars.{joined-gives, given-more, given-last, moved-
 use Rattle.row_paths.proofs.Shapes.{padded-free, padded-shares}
 use Rattle.equal_forth.specs.Forth.{Pass}
 use Rattle.row_paths.proofs.Lent.{padded-block-at, padded-rows-at, padded-zones-at}
-use Rattle.equal_back.specs.declared.Gathered.{Gathered}
-use Rattle.equal_back.specs.Back.{GatheredAt, Whenever, BlockBack, Fresh, EndBack, Chars, GivesTo, PassFrom, SideTold}
+use Rattle.back_rows.specs.declared.Gathered.{Gathered}
+use Rattle.equal_back.specs.Back.{Fresh, EndBack, GivesTo, PassFrom, SideTold}
+use Rattle.equal_steps.specs.Chars.{Chars}
+use Rattle.back_rows.specs.Rows.{GatheredAt, Whenever, BlockBack}
 
 -- ---- rows that are blank
 

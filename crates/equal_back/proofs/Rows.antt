@@ -7,8 +7,8 @@ use Rattle.sets.specs.Set.{setOf, Exactly}
 use Rattle.shapes.specs.Shape.{Block}
 use Rattle.pads.specs.Pad.{PadPath}
 use Rattle.rows.specs.Row.{rowIn}
-use Rattle.equal_back.specs.declared.Gathered.{Gathered}
-use Rattle.equal_back.specs.Back.{GatheredAt, Whenever, RowBack, RowsBack, BlockBack}
+use Rattle.back_rows.specs.declared.Gathered.{Gathered}
+use Rattle.back_rows.specs.Rows.{GatheredAt, Whenever, RowBack, RowsBack, BlockBack}
 
 module _ {Z E : ℕ → ℕ} {k mine waits p : ℕ} {b : Block} where
   pub rows-start : (rows : List ℕ) {o stop : ℕ} (g : Gathered) → o ≡ b .upper → stop ≡ setOf (g .row) → Whenever Z E k mine waits p b (RowsBack rows stop o p b g g)

@@ -1,44 +1,16 @@
 -- Equality's second pass: rows from the ends, one after the other, and what the two shapes' blocks are given on the way.
 use mathlib.Core.Path.{_≡_}
-use mathlib.Core.Bool.{Bool, true, false}
 use mathlib.Core.List.{List}
 use Prim.Native.Nat.{ℕ, _+_, _≤_, _<_}
-use lib.Bits.{bitOr}
 use lib.ListN.{length, getD, take}
-use Rattle.bases.specs.Base.{Holds}
-use Rattle.bases.specs.Tells.{Tells}
 use Rattle.sets.specs.Set.{setOf, Exactly}
 use Rattle.shapes.specs.Shape.{Block, noBlock, total, blockCount}
-use Rattle.shapes.specs.Lent.{shapeOf, blockAt}
-use Rattle.rows.specs.Steps.{Matched}
+use Rattle.shapes.specs.Lent.{shapeOf}
 use Rattle.pads.specs.Pad.{PadPath, paddedAt, Ending}
 use Rattle.rows.specs.Row.{rowIn, rowCount}
-use Rattle.row_paths.specs.Rows as rows
-use Rattle.row_paths.specs.Rows.{Zones, Shares, BlockIn, Quits, Takes, From, Seen, Gives}
-use Rattle.equal_back.specs.declared.Gathered.{Gathered}
-
--- What is gathered at position i, where the block at hand ends at e.
-abbrev pub GatheredAt : (ℕ → Block) → (ℕ → Block) → ℕ → ℕ → ℕ → ℕ → Gathered → Type 0
-GatheredAt X Y U W i e g = rows.Gathered X Y U W i e (setOf (g .row)) (setOf (g .used)) (setOf (g .quit)) (setOf (g .stops)) (setOf (g .takes))
-
--- For each X that has the block b at p, each Y whose ends of runs are the steps from Z to E, and ends U and W.
-pub record Whenever (Z E : ℕ → ℕ) (k mine waits p : ℕ) (b : Block) (P : (ℕ → Block) → (ℕ → Block) → ℕ → ℕ → Type 0) : Type 0 where
-  pub holds : (X Y : ℕ → Block) (U W : ℕ) → Zones Y Z E k → BlockIn X p b → p + b .upper ≤ U → Shares Y (b .base) mine waits → P X Y U W
-
--- One row: f is the row of the first pass, `stop` the row where the block ends.
-abbrev pub RowBack : ℕ → ℕ → ℕ → ℕ → Block → Gathered → Gathered → (ℕ → Block) → (ℕ → Block) → ℕ → ℕ → Type 0
-RowBack f stop o p b g r X Y U W = o < b .upper → Exactly f (λ j. PadPath X Y (p + o) j 0 0) → Exactly stop (λ j. PadPath X Y U W (p + b .upper) j)
-    → GatheredAt X Y U W (p + o + 1) (p + b .upper) g → GatheredAt X Y U W (p + o) (p + b .upper) r
-
--- The rows of the block from o on, where `stop` is the row at its end.
-abbrev pub RowsBack : List ℕ → ℕ → ℕ → ℕ → Block → Gathered → Gathered → (ℕ → Block) → (ℕ → Block) → ℕ → ℕ → Type 0
-RowsBack rows stop o p b g r X Y U W = ((h : ℕ) → h < b .upper → Exactly (rowIn rows (p + h)) (λ j. PadPath X Y (p + h) j 0 0))
-    → GatheredAt X Y U W (p + b .upper) (p + b .upper) g → Exactly stop (λ j. PadPath X Y U W (p + b .upper) j) × GatheredAt X Y U W (p + o) (p + b .upper) r
-
--- All rows of a block.
-abbrev pub BlockBack : List ℕ → ℕ → Block → Gathered → Gathered → (ℕ → Block) → (ℕ → Block) → ℕ → ℕ → Type 0
-BlockBack rows p b g r X Y U W = ((o : ℕ) → o < b .upper → Exactly (rowIn rows (p + o)) (λ j. PadPath X Y (p + o) j 0 0))
-    → GatheredAt X Y U W (p + b .upper) (p + b .upper) g → GatheredAt X Y U W p (p + b .upper) r
+use Rattle.row_paths.specs.Rows.{Quits, Takes, From, Seen, Gives}
+use Rattle.back_rows.specs.declared.Gathered.{Gathered}
+use Rattle.back_rows.specs.Rows.{GatheredAt}
 
 -- The same, but for what is used.
 pub record Fresh (g r : Gathered) : Type 0 where
@@ -52,15 +24,6 @@ pub record Fresh (g r : Gathered) : Type 0 where
 pub record EndBack (pad : ℕ) (y : List ℕ) (U f : ℕ) (r : Gathered) : Type 0 where
   pub holds : (X : ℕ → Block) → Ending X U → X U .base ≡ pad → ((h : ℕ) → X h .lower ≡ 0 → h < U) → Exactly f (λ j. PadPath X (paddedAt pad (shapeOf y)) U j 0 0)
       → GatheredAt X (paddedAt pad (shapeOf y)) U (total (shapeOf y)) U (U + 1) r
-
--- r has the bases of the blocks of y that are used, and the padding if the end m is.
-pub record Chars (used : ℕ) (y slots : List ℕ) (k m pad r : ℕ) : Type 0 where
-  pub own : ℕ
-  pub matched : Exactly own (Matched (rowIn slots) (λ j. blockAt y j .base) k used)
-  pub end : Bool
-  pub tells : Tells end (Holds used m)
-  pub with : end ≡ true → r ≡ bitOr own pad
-  pub without : end ≡ false → r ≡ own
 
 -- Room for the rows of both.
 pub record Wide (x y zones ends slots mines rows own others : List ℕ) : Type 0 where

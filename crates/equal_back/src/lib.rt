@@ -1,35 +1,22 @@
 // Equality's second pass: rows from the ends, and what both shapes' blocks are given on the way. The padding is a set of characters: none of them, or the
 // blank.
+use back_rows::Gathered;
 use row_steps::Runs;
 use sets::Set;
 use shapes::Block;
 ghost use mathlib.Core.Path.{_≡_};
-ghost use mathlib.Core.Bool.{true, false};
-ghost use mathlib.Core.Logic.{_⊎_};
 ghost use Prim.Native.Nat.{_+_, _/_, _≤_, _<_};
 ghost use lib.ListN.{length, replicate};
-ghost use Rattle.bases.specs.Base.{Holds, Meets};
-ghost use Rattle.bases.specs.Tells.{Tells};
-ghost use Rattle.sets.specs.Set.{setOf, Exactly};
+ghost use Rattle.sets.specs.Set.{setOf};
 ghost use Rattle.shapes.specs.Lent.{Whole, meant, shapeOf};
 ghost use Rattle.shapes.specs.Shape.{total, blockCount};
 ghost use Rattle.rows.specs.Row.{rowIn, rowCount};
-ghost use Rattle.rows.specs.Steps.{InTurn, Together, Given};
+ghost use Rattle.rows.specs.Steps.{InTurn, Together};
 ghost use Rattle.carries.specs.Climb.{Spans};
 ghost use Rattle.row_lay.specs.Lay.{Lay};
-ghost use Rattle.row_paths.specs.Rows.{Inwards};
 ghost use Rattle.equal_forth.specs.Forth.{Pass};
-ghost use Rattle.equal_back.specs.Back.{Whenever, RowBack, BlockBack, Fresh, EndBack, Chars, Wide, SideTold};
-
-// What is gathered on the way back: the row, where the block at hand takes characters beside Y, where runs of Y end early; of X, where its
-// runs end early and where it takes a character.
-pub struct Gathered {
-    pub row: Set,
-    pub used: Set,
-    pub quit: Set,
-    pub stops: Set,
-    pub takes: Set,
-}
+ghost use Rattle.back_rows.specs.Rows.{Whenever, BlockBack};
+ghost use Rattle.equal_back.specs.Back.{Fresh, EndBack, Wide, SideTold};
 
 // Where the runs of each shape end early, and where it takes a character.
 pub struct Ways {
@@ -37,83 +24,6 @@ pub struct Ways {
     pub takes: Set,
     pub quit: Set,
     pub moved: Set,
-}
-
-// Adds a number where it counts.
-fn with_number(s: Set, i: usize, on: bool) -> Set
-    requires { ⌜ i < 256 ⌝ }
-    ensures { λ r. ⌜ Exactly (setOf r) (λ e. Holds (setOf s) e ⊎ ((on ≡ true) × (e ≡ i))) ⌝ }
-{
-    if on {
-        return sets::either(s, sets::single(i));
-    }
-    s
-}
-
-// Whether a run may end and land in a row.
-fn lands(f: Set, stop: Set, may_end: bool) -> bool
-    ensures { λ r. ⌜ Tells r ((«may_end» ≡ true) × Meets (setOf f) (setOf stop)) ⌝ }
-{
-    if may_end {
-        return sets::meets(f, stop);
-    }
-    false
-}
-
-// What one character leads into a row from: the other shape goes on where it shares it, or waits at its end.
-fn inward(row: Set, mine: Set, waits: Set) -> Set
-    ensures { λ r. ⌜ Inwards (setOf row) (setOf mine) (setOf waits) (setOf r) ⌝ }
-{
-    sets::either(sets::both(sets::down(row), mine), sets::both(row, waits))
-}
-
-// The row at o characters of a block at p, from the row after it: f is the row of the first pass, `stop` that of the block's end.
-fn back_row(
-    zones: &[u64],
-    ends: &[u64],
-    k: usize,
-    spans: &[u64],
-    runs: Runs,
-    mine: Set,
-    waits: Set,
-    b: Block,
-    p: usize,
-    o: usize,
-    f: Set,
-    stop: Set,
-    g: Gathered,
-) -> Gathered
-    requires { ⌜ (k ≤ rowCount (now zones)) × (k ≤ rowCount (now ends)) ⌝ }
-    requires { ⌜ InTurn (rowIn (now zones)) (rowIn (now ends)) k ⌝ }
-    requires { ⌜ Together (rowIn (now zones)) (rowIn (now ends)) k (setOf (runs .free)) (setOf (runs .stops)) × Spans (setOf (runs .free)) (now spans) ⌝ }
-    requires { ⌜ p + o < 256 ⌝ }
-    ensures { λ r. ⌜ Whenever (rowIn (now (zones .entry))) (rowIn (now (ends .entry))) k (setOf mine) (setOf waits) p (meant b) (RowBack (setOf f) (setOf stop) o p (meant b) g r) ⌝ }
-{
-    let next = g.row;
-    let used = g.used;
-    let quit = g.quit;
-    let stops = g.stops;
-    let takes = g.takes;
-    let may_end = b.lower <= o as u64;
-    let step = inward(next, mine, waits);
-    let here = sets::both(f, step);
-    let closed = row_steps::back_by(
-        zones,
-        ends,
-        k,
-        spans,
-        runs,
-        row_steps::with(step, stop, may_end),
-    );
-    let row = closed.row;
-    let cut = closed.quit;
-    Gathered {
-        row: row,
-        used: sets::either(used, here),
-        quit: sets::either(quit, sets::both(f, cut)),
-        stops: with_number(stops, p + o, lands(f, stop, may_end)),
-        takes: with_number(takes, p + o, !sets::is_empty(here)),
-    }
 }
 
 // In four words: all rows of the block b at p, from the row at its end.
@@ -142,7 +52,7 @@ fn back_wide(
     while 0 < o {
         o -= 1;
         let f = rows::row_at(rows, p + o);
-        got = back_row(
+        got = back_rows::back_row(
             zones,
             ends,
             k,
@@ -159,79 +69,6 @@ fn back_wide(
         );
     }
     got
-}
-
-// The same in one word, where Y has no more positions than that, and the block of X ends before 64.
-fn with_low(s: Set, i: usize, on: bool) -> Set
-    requires { ⌜ i < 64 ⌝ }
-    ensures { λ r. ⌜ Exactly (setOf r) (λ e. Holds (setOf s) e ⊎ ((on ≡ true) × (e ≡ i))) ⌝ }
-{
-    if on {
-        return sets::either(s, carries::word_set(1u64 << i));
-    }
-    s
-}
-
-fn lands_word(f: Set, stop: u64, may_end: bool) -> bool
-    ensures { λ r. ⌜ Tells r ((«may_end» ≡ true) × Meets (setOf f) stop) ⌝ }
-{
-    if may_end {
-        return carries::meets_word(f, stop);
-    }
-    false
-}
-
-fn inward_word(row: u64, mine: u64, waits: u64) -> u64
-    ensures { λ r. ⌜ Inwards row mine waits r ⌝ }
-{
-    row >> 1 & mine | row & waits
-}
-
-fn row_word(
-    zones: &[u64],
-    ends: &[u64],
-    k: usize,
-    free: u64,
-    over: u64,
-    mine: u64,
-    waits: u64,
-    b: Block,
-    p: usize,
-    o: usize,
-    f: Set,
-    stop: u64,
-    g: Gathered,
-) -> Gathered
-    requires { ⌜ (k ≤ rowCount (now zones)) × (k ≤ rowCount (now ends)) ⌝ }
-    requires { ⌜ InTurn (rowIn (now zones)) (rowIn (now ends)) k ⌝ }
-    requires { ⌜ Together (rowIn (now zones)) (rowIn (now ends)) k free over ⌝ }
-    requires { ⌜ (p + o < 64) × (setOf (g .row) ≡ g .row .a) ⌝ }
-    ensures { λ r. ⌜ Whenever (rowIn (now (zones .entry))) (rowIn (now (ends .entry))) k mine waits p (meant b) (RowBack (setOf f) stop o p (meant b) g r) ⌝ }
-    ensures { λ r. ⌜ setOf (r .row) ≡ r .row .a ⌝ }
-{
-    let next = g.row;
-    let used = g.used;
-    let quit = g.quit;
-    let stops = g.stops;
-    let takes = g.takes;
-    let may_end = b.lower <= o as u64;
-    let at = p + o;
-    let step = inward_word(next.a, mine, waits);
-    let here = carries::in_word(f, step);
-    let early = lands_word(f, stop, may_end);
-    let closed = row_steps::close_back_word(
-        free,
-        over,
-        equal_forth::with_word(step, stop, may_end),
-    );
-    let cut = carries::in_word(f, closed.quit);
-    Gathered {
-        row: carries::word_set(closed.row),
-        used: sets::either(used, carries::word_set(here)),
-        quit: sets::either(quit, carries::word_set(cut)),
-        stops: with_low(stops, at, early),
-        takes: with_low(takes, at, !carries::is_zero(here)),
-    }
 }
 
 fn back_word(
@@ -260,7 +97,7 @@ fn back_word(
     while 0 < o {
         o -= 1;
         let f = rows::row_at(rows, p + o);
-        got = row_word(
+        got = back_rows::row_word(
             zones,
             ends,
             k,
@@ -365,29 +202,8 @@ fn at_end(
         used: taken,
         quit: sets::both(f, t.quit),
         stops: sets::none(),
-        takes: with_number(sets::none(), n, !sets::is_empty(taken)),
+        takes: equal_steps::with_number(sets::none(), n, !sets::is_empty(taken)),
     }
-}
-
-// The characters of a block that has used some positions of y, its end m among them; the blocks of y at those positions are given its base.
-fn chars(
-    used: Set,
-    base: Set,
-    y: &[u64],
-    slots: &[u64],
-    others: &mut [u64],
-    k: usize,
-    m: usize,
-    pad: Set,
-) -> Set
-    requires { ⌜ (k ≤ blockCount (now y)) × (k ≤ rowCount (now slots)) × (k ≤ rowCount (now others)) ⌝ }
-    requires { ⌜ m < 256 ⌝ }
-    ensures { λ r. ⌜ Chars (setOf used) (now (y .entry)) (now (slots .entry)) k m (setOf pad) (setOf r) ⌝ }
-    ensures { λ _. ⌜ Given (rowIn (now (slots .entry))) k (setOf used) (setOf base) (rowIn (now (others .entry))) (rowIn (now (others .exit))) ⌝ }
-    ensures { λ _. ⌜ length (now (others .exit)) ≡ length (now (others .entry)) ⌝ }
-{
-    let own = row_steps::share(used, base, y, slots, others, k);
-    row_steps::with(own, pad, sets::has(used, m))
 }
 
 // All blocks of x beside y, from the last to the first: writes the characters of each block of both, and gives where their runs end early and
@@ -428,7 +244,7 @@ pub fn back(
         i -= 1;
         let b = shapes::block_at(x, i);
         p -= b.upper as usize;
-        let waits = equal_forth::waiting(b.base, pad, m);
+        let waits = equal_steps::waiting(b.base, pad, m);
         g = back_block(
             zones,
             ends,
@@ -443,7 +259,11 @@ pub fn back(
             fresh(g),
         );
         let used = g.used;
-        rows::put_row(own, i, chars(used, b.base, y, slots, others, k, m, pad));
+        rows::put_row(
+            own,
+            i,
+            equal_steps::chars(used, b.base, y, slots, others, k, m, pad),
+        );
         moved = sets::either(moved, used);
     }
     let quit = g.quit;

@@ -1,3 +1,2 @@
 -- The laws of equality's first pass.
-pub mod Rows
 pub mod Pass

@@ -22,7 +22,8 @@ use Rattle.row_paths.specs.Rows.{Zones, Shares, Entered, start, taken}
 use Rattle.row_paths.proofs.Reached.{reached-last}
 use Rattle.row_paths.proofs.Lent.{padded-block-at}
 use Rattle.row_paths.proofs.Shapes.{padded-free}
-use Rattle.equal_forth.specs.Forth.{BlockRows, Follows, RowsKept, PassTo, Pass}
+use Rattle.equal_forth.specs.Forth.{PassTo, Pass}
+use Rattle.forth_rows.specs.Rows.{BlockRows, Follows, RowsKept}
 
 -- ---- the pass
 

@@ -10,10 +10,10 @@ use Rattle.shapes.specs.All.{All}
 use Rattle.shapes.specs.Shape.{Small, textOf}
 use Rattle.shapes.specs.Lent.{shapeOf, Accepted}
 use Rattle.shapes.proofs.Fits.{filling-length}
-use Rattle.extremes.specs.declared.Direction.{Direction}
-use Rattle.extremes.specs.declared.Choice.{Choice}
-use Rattle.extremes.specs.Steps.{extreme}
-use Rattle.extremes.specs.Code.{charIn, runOf, runsOf}
+use Rattle.extreme_steps.specs.declared.Direction.{Direction}
+use Rattle.extreme_steps.specs.declared.Choice.{Choice}
+use Rattle.extreme_steps.specs.Steps.{extreme}
+use Rattle.extreme_steps.specs.Code.{charIn, runOf, runsOf}
 use Rattle.extremes.proofs.Best.{runs-fill}
 
 -- ---- one run in its place

@@ -1,3 +1,2 @@
 -- What the call that decides fitting promises, and what its inner functions answer.
 pub mod Fit
-pub mod Rows

@@ -6,7 +6,7 @@ ghost use Rattle.host_calls.specs.Host.{HostPromise};
 pub fn run(book: &[u8], report: &mut [u8], work: &mut [u8]) -> i64
     ensures { λ z. ⌜ HostPromise (now (book .entry)) (now (report .entry)) (now (work .entry)) (now (report .exit)) (now (work .exit)) z ⌝ }
 {
-    match file_runs::run_lent(book, report, work) {
+    match file_calls::run_lent(book, report, work) {
         Written::Text(n) => n as i64,
         Written::Refused(r) => -(answers::number(r) as i64),
     }

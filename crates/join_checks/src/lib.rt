@@ -48,15 +48,15 @@ pub fn check(
 ) -> Checked
     ensures { λ r. ⌜ JoinChecked (now (x .entry)) (now (y .entry)) (now (z .entry)) work first second third r ⌝ }
 {
-    match shapes::check_lent(x, 1) {
+    match shape_checks::check_lent(x, 1) {
         Checked::Refused(r) => return Checked::Refused(r),
         Checked::Sound => {}
     }
-    match shapes::check_lent(y, 2) {
+    match shape_checks::check_lent(y, 2) {
         Checked::Refused(r) => return Checked::Refused(r),
         Checked::Sound => {}
     }
-    match shapes::check_lent(z, 3) {
+    match shape_checks::check_lent(z, 3) {
         Checked::Refused(r) => return Checked::Refused(r),
         Checked::Sound => {}
     }

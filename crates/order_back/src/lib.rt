@@ -1,5 +1,5 @@
 // An order's second pass, by groups of states at which the guide says the same; and the characters that each block is brought.
-use extremes::Direction;
+use extreme_steps::Direction;
 use order_states::Gathered;
 use order_states::Sorts;
 use row_steps::Runs;

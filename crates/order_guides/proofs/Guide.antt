@@ -13,8 +13,8 @@ use Rattle.bases.proofs.Laws.{none-in-zero}
 use Rattle.bases.proofs.Plain.{lt-or-le}
 use Rattle.sets.specs.Set.{Exactly}
 use Rattle.sets.proofs.Exact.{exactly-as, without-exactly, one-exactly, ones-exactly}
-use Rattle.extremes.specs.declared.Direction.{Direction}
-use Rattle.extremes.specs.declared.Direction.the-variants.{Least, Greatest}
+use Rattle.extreme_steps.specs.declared.Direction.{Direction}
+use Rattle.extreme_steps.specs.declared.Direction.the-variants.{Least, Greatest}
 use Rattle.order_guides.specs.Sides.{Beyond, lower, higher, NextIs, PartsFrom, MayEnd}
 use Rattle.order_guides.specs.Guide.{under, beyondOf, pastOf, shorterOf, levelOf, choose, nextOf, apartOf, endsOf, guideOf, Steady}
 

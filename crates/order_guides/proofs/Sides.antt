@@ -8,8 +8,8 @@ use lib.ListN.{length, getD, drop, length-drop, drop-of-length-le}
 use Rattle.shapes.specs.All.{All, more}
 use Rattle.texts.specs.Order.{AtMost, Before}
 use Rattle.texts.proofs.Rests.{rest-next}
-use Rattle.extremes.specs.declared.Direction.{Direction}
-use Rattle.extremes.specs.declared.Direction.the-variants.{Least, Greatest}
+use Rattle.extreme_steps.specs.declared.Direction.{Direction}
+use Rattle.extreme_steps.specs.declared.Direction.the-variants.{Least, Greatest}
 use Rattle.order_sides.specs.Guide.{Keeps, Ended}
 use Rattle.order_guides.specs.Sides.{Beyond, lower, higher, Side, NextIs, PartsFrom, MayEnd}
 use Rattle.order_guides.specs.Guide.{guideOf}

@@ -12,8 +12,8 @@ use Rattle.bases.proofs.Plain.{lt-or-le}
 use Rattle.bases.proofs.Tells.{tells-true, tells-false}
 use Rattle.sets.specs.Set.{Exactly}
 use Rattle.sets.proofs.Exact.{exactly-as, exactly-one, one-exactly, ones-exactly}
-use Rattle.extremes.specs.declared.Direction.{Direction}
-use Rattle.extremes.specs.declared.Direction.the-variants.{Least, Greatest}
+use Rattle.extreme_steps.specs.declared.Direction.{Direction}
+use Rattle.extreme_steps.specs.declared.Direction.the-variants.{Least, Greatest}
 use Rattle.order_guides.specs.Guide.{Plain, beyondOf, pastOf, shorterOf, levelOf, nextOf, apartOf, guideOf, Steady}
 use Rattle.order_guides.proofs.Guide.{above-exactly, next-here, next-past, apart-here, apart-past, steady-run}
 

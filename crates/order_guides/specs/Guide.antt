@@ -6,8 +6,8 @@ use Prim.Native.Nat.{ℕ, _+_, _-_, _^_, _≤_, _<_}
 use lib.Bits.{bitAnd, bitXor}
 use lib.Dec.{ltb}
 use lib.ListN.{length, getD}
-use Rattle.extremes.specs.declared.Direction.{Direction}
-use Rattle.extremes.specs.declared.Direction.the-variants.{Least, Greatest}
+use Rattle.extreme_steps.specs.declared.Direction.{Direction}
+use Rattle.extreme_steps.specs.declared.Direction.the-variants.{Least, Greatest}
 use Rattle.order_sides.specs.Guide.{Guide}
 use Rattle.bases.specs.Base.{codes}
 

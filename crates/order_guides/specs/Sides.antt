@@ -4,8 +4,8 @@ use mathlib.Core.Bool.{Bool, false}
 use mathlib.Core.List.{List, [], _∷_}
 use Prim.Native.Nat.{ℕ, _≤_, _<_}
 use lib.ListN.{length, getD}
-use Rattle.extremes.specs.declared.Direction.{Direction}
-use Rattle.extremes.specs.declared.Direction.the-variants.{Least, Greatest}
+use Rattle.extreme_steps.specs.declared.Direction.{Direction}
+use Rattle.extreme_steps.specs.declared.Direction.the-variants.{Least, Greatest}
 
 -- c is on the right side of e.
 pub data Beyond : Direction → ℕ → ℕ → Type 0 where

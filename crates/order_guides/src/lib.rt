@@ -1,5 +1,5 @@
 // The guide of a fixed text, asked at one of its states.
-use extremes::Direction;
+use extreme_steps::Direction;
 use sets::Set;
 ghost use mathlib.Core.Path.{_≡_};
 ghost use mathlib.Core.Bool.{Bool};

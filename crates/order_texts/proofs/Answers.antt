@@ -11,7 +11,7 @@ use Rattle.shapes.specs.Lent.{shapeOf}
 use Rattle.shapes.proofs.All.{all-append, all-map}
 use Rattle.hulls.specs.Hull.{None}
 use Rattle.hulls.proofs.Hull.{same-rule, same-none}
-use Rattle.extremes.specs.declared.Direction.{Direction}
+use Rattle.extreme_steps.specs.declared.Direction.{Direction}
 use Rattle.order_sides.specs.Guide.{Kept}
 use Rattle.order_guides.specs.Sides.{Side}
 use Rattle.order_guides.specs.Guide.{guideOf}

@@ -1,5 +1,5 @@
 // One shape narrowed by what is on the right side of a fixed text.
-use extremes::Direction;
+use extreme_steps::Direction;
 use order_states::Gathered;
 use sets::Set;
 ghost use mathlib.Core.Path.{_≡_};

@@ -12,9 +12,9 @@ use Rattle.shapes.specs.Lent.{shapeOf}
 use Rattle.shapes.proofs.All.{all-at}
 use Rattle.shapes.proofs.Fits.{fits-length}
 use Rattle.texts.specs.Order.{AtMost, Before}
-use Rattle.extremes.specs.declared.Direction.{Direction}
-use Rattle.extremes.specs.declared.Direction.the-variants.{Least, Greatest}
-use Rattle.extremes.specs.Steps.{extreme}
+use Rattle.extreme_steps.specs.declared.Direction.{Direction}
+use Rattle.extreme_steps.specs.declared.Direction.the-variants.{Least, Greatest}
+use Rattle.extreme_steps.specs.Steps.{extreme}
 use Rattle.extremes.specs.Extreme.{Extreme, TextWritten}
 use Rattle.hulls.specs.Hull.{None, Hull}
 use Rattle.hulls.proofs.Hull.{same-rule}

@@ -7,7 +7,7 @@ use lib.ListN.{length}
 use Rattle.shapes.specs.Shape.{Block, Filling, Fits, textOf}
 use Rattle.texts.specs.Order.{AtMost, Before}
 use Rattle.texts.proofs.Order.{at-most-trans, before-trans, before-trans′}
-use Rattle.extremes.specs.declared.Direction.the-variants.{Least, Greatest}
+use Rattle.extreme_steps.specs.declared.Direction.the-variants.{Least, Greatest}
 use Rattle.extremes.specs.Extreme.{Extreme, NoFurther}
 use Rattle.extremes.specs.Extreme.NoFurther.{at-most, at-least}
 use Rattle.hulls.specs.Hull.{Pairs, None, Hull}

@@ -1,5 +1,5 @@
 // Narrowing under "at most" and "before": for each side only one text of the other matters.
-use extremes::Direction;
+use extreme_steps::Direction;
 ghost use mathlib.Core.Path.{_≡_};
 ghost use mathlib.Core.Bool.{true, false};
 ghost use Prim.Native.Nat.{_≤_};
@@ -7,7 +7,7 @@ ghost use lib.ListN.{length, replicate};
 ghost use Rattle.shapes.specs.Shape.{textOf};
 ghost use Rattle.shapes.specs.Lent.{shapeOf, Accepted};
 ghost use Rattle.texts.specs.Order.{AtMost, Before};
-ghost use Rattle.extremes.specs.Steps.{extreme};
+ghost use Rattle.extreme_steps.specs.Steps.{extreme};
 ghost use Rattle.pairs.specs.Narrow.{NarrowAnswer};
 ghost use Rattle.order_guides.specs.Sides.{Side};
 ghost use Rattle.order_texts.specs.Narrowed.{One};

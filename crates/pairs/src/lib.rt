@@ -9,9 +9,9 @@ ghost use Rattle.pairs.specs.Pair.{PairChecked};
 pub fn check_pair(x: &[u64], y: &[u64]) -> Checked
     ensures { λ r. ⌜ PairChecked (now (x .entry)) (now (y .entry)) r ⌝ }
 {
-    match shapes::check_lent(x, 1) {
+    match shape_checks::check_lent(x, 1) {
         Checked::Refused(r) => Checked::Refused(r),
-        Checked::Sound => shapes::check_lent(y, 2),
+        Checked::Sound => shape_checks::check_lent(y, 2),
     }
 }
 

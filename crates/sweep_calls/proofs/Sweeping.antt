@@ -12,7 +12,7 @@ use Rattle.shapes.specs.Lent.{shapeOf}
 use Rattle.pairs.specs.Pair.{PairAccepted}
 use Rattle.pairs.proofs.Pair.{pair-one, pair-not}
 use Rattle.sweep_steps.specs.Steps.{Found, places, cannot, sweepOf}
-use Rattle.sweeps.specs.Read.{sweptOf, outputOf}
+use Rattle.sweep_passes.specs.Read.{sweptOf, outputOf}
 use Rattle.sweeps.specs.Meaning.{Means}
 use Rattle.sweeps.proofs.Meaning.{means}
 use Rattle.sweep_calls.specs.Sweep.{SweepRefused, SweepDone, SweepPromise}

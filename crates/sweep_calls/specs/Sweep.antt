@@ -9,7 +9,7 @@ use Rattle.answers.specs.declared.Swept.the-variants.{Places, Cannot, Refused}
 use Rattle.shapes.specs.Lent.{shapeOf}
 use Rattle.pairs.specs.Pair.{PairAccepted, PairRefused}
 use Rattle.sweep_steps.specs.Steps.{sweepOf}
-use Rattle.sweeps.specs.Read.{sweptOf, outputOf}
+use Rattle.sweep_passes.specs.Read.{sweptOf, outputOf}
 use Rattle.sweeps.specs.Meaning.{Means}
 
 -- The refusals: those of the pair, then 5 for an output shorter than two numbers per block of X.

@@ -11,7 +11,7 @@ use Rattle.sweep_steps.specs.Steps.{Found, places, cannot, looksOf, sweepOf, nu
 use Rattle.sweep_steps.specs.declared.Place.{Place}
 use Rattle.sweep_steps.proofs.Looks.{looks-bounded}
 use Rattle.sweep_steps.proofs.Sweep.{cannot-none, places-many, places-not-late}
-use Rattle.sweeps.specs.Read.{sweptOf, outputOf}
+use Rattle.sweep_passes.specs.Read.{sweptOf, outputOf}
 use Rattle.sweeps.specs.Meaning.{Means}
 
 -- a place in the output

@@ -14,8 +14,8 @@ use Rattle.sweep_steps.specs.Steps.{Held, stretches, Found, places, cannot, loo
 use Rattle.sweep_steps.specs.declared.Place.{Place}
 use Rattle.sweep_steps.proofs.Looks.{looks-bounded}
 use Rattle.sweep_steps.proofs.Sweep.{places-held}
-use Rattle.sweeps.specs.declared.Passed.{Passed}
-use Rattle.sweeps.specs.Read.{heldIn, passed, sweptOf, outputOf}
+use Rattle.sweep_passes.specs.declared.Passed.{Passed}
+use Rattle.sweep_passes.specs.Read.{heldIn, passed, sweptOf, outputOf}
 
 held-first : (x : List Block) (kept : List ℕ) → 1 ≤ length x → firstPlace (heldIn x kept) ≡ at (getD kept 0 0) (getD kept 1 0)
 unfolding heldIn

@@ -1,3 +1,2 @@
 -- How the quick sweep's lent numbers and outputs are read.
-pub mod Read
 pub mod Meaning

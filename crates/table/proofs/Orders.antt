@@ -13,8 +13,8 @@ use Rattle.shapes.specs.Shape.{Run, textOf}
 use Rattle.shapes.proofs.All.{all-head}
 use Rattle.texts.specs.Order.{Before}
 use Rattle.texts.proofs.Order.{before-nil, before-tail}
-use Rattle.extremes.specs.declared.Direction.{Direction}
-use Rattle.extremes.specs.Steps.{extreme}
+use Rattle.extreme_steps.specs.declared.Direction.{Direction}
+use Rattle.extreme_steps.specs.Steps.{extreme}
 use Rattle.extremes.specs.Extreme.{Extreme}
 use Rattle.extremes.proofs.Best.{is-extreme}
 use Rattle.hulls.specs.Hull.{Hull}

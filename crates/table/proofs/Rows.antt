@@ -4,8 +4,8 @@ use mathlib.Core.List.{[], _∷_}
 use lib.Count.{leadingZeros, trailingZeros}
 use Rattle.bases.specs.Base.{leastOf, greatestOf}
 use Rattle.shapes.specs.Shape.{textOf}
-use Rattle.extremes.specs.declared.Direction.the-variants.{Least, Greatest}
-use Rattle.extremes.specs.Steps.{successor, runs}
+use Rattle.extreme_steps.specs.declared.Direction.the-variants.{Least, Greatest}
+use Rattle.extreme_steps.specs.Steps.{successor, runs}
 use Rattle.texts.specs.Order.{Before}
 use Rattle.texts.proofs.Order.{at-most-refl, not-before}
 use Rattle.hulls.specs.Hull.{to-none, to-shapes}

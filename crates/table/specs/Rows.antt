@@ -5,8 +5,8 @@ use Prim.Native.Nat.{_+_}
 use lib.ListN.{replicate}
 use Rattle.shapes.specs.Shape.{Block}
 use Rattle.texts.specs.Order.{Before}
-use Rattle.extremes.specs.declared.Direction.the-variants.{Greatest}
-use Rattle.extremes.specs.Steps.{extreme}
+use Rattle.extreme_steps.specs.declared.Direction.the-variants.{Greatest}
+use Rattle.extreme_steps.specs.Steps.{extreme}
 use Rattle.hulls.specs.Hull.{none}
 use Rattle.rests.specs.Walk.{Same}
 use Rattle.sweep_steps.specs.Places.{at}

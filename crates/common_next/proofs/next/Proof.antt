@@ -6,8 +6,8 @@ use native.Mathlib.Omega.{arith}
 use borrow.Author.Needs.{needs}
 use lib.ListN.{length}
 use Rattle.sets.specs.Set.{setOf}
-use Rattle.common_next.specs.declared.Chosen.{Chosen}
-use Rattle.common_next.specs.Code.{ChosenTo}
+use Rattle.common_weighs.specs.declared.Chosen.{Chosen}
+use Rattle.common_weighs.specs.Code.{ChosenTo}
 use Rattle.common_next.proofs.Blocks.{none-found, block-none, all-found}
 use Rattle.common_next.proofs.next.Statement.{statement}
 use Rattle.common_next.proofs.next.Tie as tie

@@ -2,7 +2,7 @@
 use mathlib.Core.Path.{refl}
 use Rattle.sets.specs.Set.{setOf}
 use Rattle.row_paths.proofs.Laid.{laid-turn, laid-zones}
-use Rattle.common_next.proofs.Ends.{ended-row, ended-none}
+use Rattle.common_weighs.proofs.Ends.{ended-row, ended-none}
 use borrow.Author.Needs.{needs}
 use Rattle.common_next.proofs.onward.Statement.{statement}
 use Rattle.common_next.proofs.onward.Tie as tie

@@ -1,6 +1,6 @@
 -- `common_next::read`: the positions that take the character, one up, closed under the ends of runs. Assumes nothing.
 use Rattle.sets.specs.Set.{setOf}
-use Rattle.common_next.proofs.Ends.{row-after}
+use Rattle.common_weighs.proofs.Ends.{row-after}
 use borrow.Author.Needs.{needs}
 use Rattle.common_next.proofs.read.Statement.{statement}
 use Rattle.common_next.proofs.read.Tie as tie

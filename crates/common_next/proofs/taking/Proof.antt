@@ -1,6 +1,6 @@
 -- `common_next::taking`: as it was, or the rows of the blocks that have the character. Assumes nothing.
 use mathlib.Core.Path.{refl}
-use Rattle.common_next.proofs.Ends.{takes-char}
+use Rattle.common_weighs.proofs.Ends.{takes-char}
 use borrow.Author.Needs.{needs}
 use Rattle.common_next.proofs.taking.Statement.{statement}
 use Rattle.common_next.proofs.taking.Tie as tie

@@ -1,7 +1,7 @@
 -- `equal_back::back_block`: sets of one word are those words. Assumes nothing.
 use native.Mathlib.Omega.{arith}
-use Rattle.equal_forth.proofs.Rows.{together-as}
-use Rattle.equal_back.proofs.Words.{block-as}
+use Rattle.forth_rows.proofs.Rows.{together-as}
+use Rattle.back_rows.proofs.Words.{block-as}
 use borrow.Author.Needs.{needs}
 use Rattle.equal_back.proofs.back_block.Statement.{statement}
 use Rattle.equal_back.proofs.back_block.Tie as tie

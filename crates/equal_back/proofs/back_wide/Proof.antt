@@ -5,7 +5,7 @@ use native.Mathlib.Omega.{arith}
 use Rattle.sets.specs.Set.{setOf}
 use Rattle.shapes.specs.Lent.{meant}
 use Rattle.rows.specs.Row.{rowIn}
-use Rattle.equal_back.specs.Back.{Whenever, RowsBack}
+use Rattle.back_rows.specs.Rows.{Whenever, RowsBack}
 use Rattle.equal_back.proofs.Rows.{rows-start, rows-more, rows-end}
 use borrow.Author.Needs.{needs}
 use Rattle.equal_back.proofs.back_wide.Statement.{statement}

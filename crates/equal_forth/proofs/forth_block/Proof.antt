@@ -1,5 +1,5 @@
 -- `equal_forth::forth_block`: sets of one word are those words. Assumes nothing.
-use Rattle.equal_forth.proofs.Rows.{together-as, follows-as}
+use Rattle.forth_rows.proofs.Rows.{together-as, follows-as}
 use borrow.Author.Needs.{needs}
 use Rattle.equal_forth.proofs.forth_block.Statement.{statement}
 use Rattle.equal_forth.proofs.forth_block.Tie as tie

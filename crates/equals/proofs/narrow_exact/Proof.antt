@@ -1,5 +1,5 @@
 -- `equals::narrow_exact`: with no padding two texts are equal but for it exactly if they are equal. Assumes nothing.
-use Rattle.equals.proofs.Equal.{exactly}
+use Rattle.equal_rows.proofs.Equal.{exactly}
 use borrow.Author.Needs.{needs}
 use Rattle.equals.proofs.narrow_exact.Statement.{statement}
 use Rattle.equals.proofs.narrow_exact.Tie as tie

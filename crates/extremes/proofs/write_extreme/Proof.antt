@@ -10,11 +10,11 @@ use Rattle.shapes.specs.Shape.{Sound, Small, textOf}
 use Rattle.shapes.specs.Lent.{shapeOf, meant}
 use Rattle.shapes.proofs.All.{all-of}
 use Rattle.shapes.proofs.Lent.{block-sound, small-bases}
-use Rattle.extremes.specs.declared.Successor.the-variants.{End}
-use Rattle.extremes.specs.declared.Choice.{Choice}
-use Rattle.extremes.specs.Steps.{successor, runs}
+use Rattle.extreme_steps.specs.declared.Successor.the-variants.{End}
+use Rattle.extreme_steps.specs.declared.Choice.{Choice}
+use Rattle.extreme_steps.specs.Steps.{successor, runs}
 use Rattle.extremes.proofs.Best.{is-extreme}
-use Rattle.extremes.proofs.Steps.{successor-end, runs-end, turn-successor, turn-runs}
+use Rattle.extreme_steps.proofs.Steps.{successor-end, runs-end, turn-successor, turn-runs}
 use Rattle.extremes.proofs.Write.{runsFrom, runs-none, runs-set, soFar, none-yet, text-whole, turn-length, turn-room, turn-out, text-room}
 use Rattle.extremes.proofs.write_extreme.Statement.{statement}
 use Rattle.extremes.proofs.write_extreme.Tie as tie

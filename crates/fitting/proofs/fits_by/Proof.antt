@@ -11,9 +11,9 @@ use Rattle.sets.proofs.Exact.{both-exactly, held-under}
 use Rattle.shapes.specs.Shape.{Block, Sound}
 use Rattle.shapes.specs.Lent.{shapeOf, meant}
 use Rattle.shapes.proofs.Lent.{shape-from, none-left, block-sound}
-use Rattle.fitting.specs.Rows.{Row}
-use Rattle.fitting.proofs.Rows.{row-last}
-use Rattle.fitting.proofs.Table.{held-places}
+use Rattle.fit_rows.specs.Rows.{Row}
+use Rattle.fit_rows.proofs.Rows.{row-last}
+use Rattle.fit_tables.proofs.Table.{held-places}
 use Rattle.fitting.proofs.fits_by.Statement.{statement}
 use Rattle.fitting.proofs.fits_by.Tie as tie
 

@@ -3,8 +3,8 @@ use borrow.Author.Tests.{not-true, not-false}
 use Rattle.shapes.specs.Lent.{shapeOf}
 use Rattle.shapes.proofs.All.{all-of}
 use Rattle.shapes.proofs.Lent.{small-bases}
-use Rattle.extremes.specs.declared.Direction.the-variants.{Least, Greatest}
-use Rattle.extremes.specs.Steps.{extreme}
+use Rattle.extreme_steps.specs.declared.Direction.the-variants.{Least, Greatest}
+use Rattle.extreme_steps.specs.Steps.{extreme}
 use Rattle.extremes.specs.Extreme.{Extreme}
 use Rattle.extremes.proofs.Best.{is-extreme}
 use Rattle.orders.proofs.Narrowed.{at-most-faced, before-faced, says-none, says-some}

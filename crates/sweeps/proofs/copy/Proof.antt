@@ -5,7 +5,7 @@ use Prim.Native.Nat.{ℕ, _-_, _≤_}
 use native.Mathlib.Omega.{arith}
 use borrow.Author.Needs.{needs}
 use lib.ListN.{length, take, drop, length-set}
-use Rattle.sweeps.proofs.Kept.{copied}
+use Rattle.sweep_passes.proofs.Kept.{copied}
 use Rattle.sweeps.proofs.copy.Statement.{statement}
 use Rattle.sweeps.proofs.copy.Tie as tie
 

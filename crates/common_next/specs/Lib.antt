@@ -1,3 +1,0 @@
--- One character more of a common text.
-pub mod Next
-pub mod Code

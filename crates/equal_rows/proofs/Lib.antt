@@ -1,0 +1,2 @@
+-- Narrowing under equality but for padding, in lent room: both passes, then both outputs.
+pub mod Equal

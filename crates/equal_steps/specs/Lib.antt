@@ -1,0 +1,2 @@
+-- What one step of equality's passes gives.
+pub mod Chars

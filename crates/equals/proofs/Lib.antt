@@ -1,2 +1,0 @@
--- The laws of narrowing under equality.
-pub mod Equal

@@ -1,0 +1,3 @@
+-- The steps of least and greatest text.
+pub mod Steps
+pub mod Code

@@ -1,0 +1,3 @@
+-- Where each character stands in a text: a row of places for each that occurs.
+pub mod Table
+pub mod Lowest

@@ -1,0 +1,82 @@
+// Where each character stands in a text: a row of places for each that occurs.
+use sets::Set;
+ghost use mathlib.Core.Path.{_≡_};
+ghost use mathlib.Core.List.{List};
+ghost use Prim.Native.Nat.{_+_, _*_, _/_, _≤_, _<_, ℕ};
+ghost use lib.ListN.{length, getD, replicate};
+ghost use Rattle.bases.specs.Base.{Holds, codes};
+ghost use Rattle.sets.specs.Set.{setOf, Exactly};
+ghost use Rattle.fit_rows.specs.Rows.{rowOf, Sized, Placed, PlacesOf, SeenTo, Picked};
+
+// Adds place p to the row of its character c in a table, and c to the characters seen. A byte above 127 has no row.
+fn add_place(table: &mut [u64], seen: Set, c: usize, p: usize) -> Set
+    requires { ⌜ p / 64 < length (now table) / codes ⌝ }
+    ensures { λ _. ⌜ ((t : List ℕ) → getD t p 0 ≡ c → Placed t p (now (table .entry)) → Placed t (p + 1) (now (table .exit))) ⌝ }
+    ensures { λ r. ⌜ ((t : List ℕ) → getD t p 0 ≡ c → SeenTo t p (setOf seen) → SeenTo t (p + 1) (setOf r)) ⌝ }
+{
+    if 128 <= c {
+        return seen;
+    }
+    let at = p / 64 * 128 + c;
+    table[at] = table[at] | 1u64 << (p % 64);
+    sets::either(seen, sets::single(c))
+}
+
+// Adds each place of a text to the row of its character, and answers which characters there are. The table has a word for each character and each 64 places.
+pub fn add_places(text: &[u8], table: &mut [u64]) -> Set
+    requires { ⌜ length (now text) ≤ 250 ⌝ }
+    requires { ⌜ length (now text) ≤ length (now table) / codes * 64 ⌝ }
+    requires { ⌜ now table ≡ replicate (length (now table)) 0 ⌝ }
+    ensures { λ _. ⌜ PlacesOf (now (text .entry)) (now (table .exit)) ⌝ }
+    ensures { λ r. ⌜ SeenTo (now (text .entry)) (length (now (text .entry))) (setOf r) ⌝ }
+{
+    let mut seen = sets::none();
+    let mut p = 0;
+    while p < text.len() {
+        seen = add_place(table, seen, text[p] as usize, p);
+        p += 1;
+    }
+    seen
+}
+
+// The places of character c: a row of one word, or of four.
+fn row_of(table: &[u64], c: usize) -> Set
+    requires { ⌜ Sized (now table) ⌝ }
+    requires { ⌜ c < codes ⌝ }
+    ensures { λ r. ⌜ setOf r ≡ rowOf (now (table .entry)) c ⌝ }
+{
+    if table.len() <= 128 {
+        return sets::two_words(table[c], 0);
+    }
+    Set {
+        a: table[c],
+        b: table[128 + c],
+        c: table[256 + c],
+        d: table[384 + c],
+    }
+}
+
+// The places of the characters of one word, which stands for those from `from` on.
+fn of_word(word: u64, from: usize, table: &[u64]) -> Set
+    requires { ⌜ from ≤ 64 ⌝ }
+    requires { ⌜ Sized (now table) ⌝ }
+    ensures { λ r. ⌜ Exactly (setOf r) (Picked (λ e. rowOf (now (table .entry)) (from + e)) word) ⌝ }
+{
+    let mut left = word;
+    let mut r = sets::none();
+    while left != 0 {
+        let e = u64::trailing_zeros(left) as usize;
+        r = sets::either(r, row_of(table, from + e));
+        left = left & (left - 1);
+    }
+    r
+}
+
+// The places of some characters.
+pub fn places(chars: Set, table: &[u64]) -> Set
+    requires { ⌜ ((c : ℕ) → Holds (setOf chars) c → c < codes) ⌝ }
+    requires { ⌜ Sized (now table) ⌝ }
+    ensures { λ r. ⌜ Exactly (setOf r) (Picked (rowOf (now (table .entry))) (setOf chars)) ⌝ }
+{
+    sets::either(of_word(chars.a, 0, table), of_word(chars.b, 64, table))
+}

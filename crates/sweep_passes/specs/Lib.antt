@@ -1,0 +1,2 @@
+-- The sweep's two passes over all blocks.
+pub mod Read
