@@ -7,7 +7,7 @@
 #include <time.h>
 
 // The proved calls: a slice is a pointer and a length.
-uint64_t wedgeotter_least(const uint64_t *shape, size_t n, uint8_t *out, size_t k);
+extreme wedgeotter_least, wedgeotter_greatest;
 uint64_t wedgeotter_sweep(const uint64_t *x, size_t n, const uint64_t *y, size_t m, uint64_t *out, size_t k);
 fitting wedgeotter_fits;
 narrowing wedgeotter_exact, wedgeotter_padded, wedgeotter_at_most, wedgeotter_before;
@@ -19,6 +19,7 @@ filing wedgeotter_file;
 // The proved call, plain C with byte tables, plain C with rows of bits.
 #define SIDES 3
 static fitting *const fits_of[SIDES] = {wedgeotter_fits, plain_fits, rows_fits};
+static extreme *const extreme_of[2][2] = {{wedgeotter_least, plain_least}, {wedgeotter_greatest, plain_greatest}};
 static joining *const join_of[SIDES] = {wedgeotter_join, plain_join, rows_join};
 static showing *const common_of[SIDES] = {wedgeotter_common, plain_common, rows_common};
 static running *const book_of[SIDES] = {wedgeotter_book, plain_book, rows_book};
@@ -104,20 +105,23 @@ static void bounds(const char *size, size_t blocks, uint64_t most) {
     uint8_t out[250];
     for (int i = 0; i < SHAPES; i++) {
         length[i] = make(shape[i], blocks, most);
-        long_[i] = plain_least(shape[i], length[i], text[i], 250);
-        same(wedgeotter_least(shape[i], length[i], out, 250) == long_[i] && memcmp(out, text[i], long_[i]) == 0, "least text");
+        for (int up = 1; up >= 0; up--) {
+            long_[i] = extreme_of[up][1](shape[i], length[i], text[i], 250);
+            same(extreme_of[up][0](shape[i], length[i], out, 250) == long_[i] && memcmp(out, text[i], long_[i]) == 0, "least or greatest text");
+        }
         if (rnd(2) && long_[i]) text[i][rnd(long_[i])] = 97 + rnd(4);
         uint64_t ours = wedgeotter_fits(shape[i], length[i], text[i], long_[i]);
         for (int side = 1; side < SIDES; side++) same(ours == fits_of[side](shape[i], length[i], text[i], long_[i]), "fits");
     }
-    double fits[SIDES] = {0}, least[2] = {0};
+    double fits[SIDES] = {0}, texts[2][2] = {{0}};
     TURNS(1) {
         for (int side = 0; side < SIDES; side++) TIME(fits[side], 0, SHAPES, fits_of[side](shape[i], length[i], text[i], long_[i]));
-        TIME(least[0], 0, SHAPES, wedgeotter_least(shape[i], length[i], out, 250));
-        TIME(least[1], 0, SHAPES, plain_least(shape[i], length[i], out, 250));
+        for (int up = 0; up < 2; up++)
+            for (int side = 0; side < 2; side++) TIME(texts[up][side], 0, SHAPES, extreme_of[up][side](shape[i], length[i], out, 250));
     }
     show("fits", size, SIDES, fits), puts("");
-    show("least text", size, 2, least), puts("");
+    show("least text", size, 2, texts[0]), puts("");
+    show("greatest text", size, 2, texts[1]), puts("");
 }
 
 #define NEXT ((i + 1) % SHAPES)
@@ -489,8 +493,8 @@ static void books(const char *size, int joins, size_t blocks, uint64_t most) {
 
 int main(void) {
     puts("Times per call, the least of several turns, in the mean over the inputs: ours is the proved call, bytes plain C with byte tables, rows plain C with rows of bits.");
-    puts("After each plain C the ratio of ours to it; for narrowing, joins and common texts then that to our equality to the letter on the same pairs. Least text and sweep");
-    puts("have one plain C. Equality but for padding makes a second pass on pairs that are none to the letter; the ratio without these follows, and the greatest of a pair.");
+    puts("After each plain C the ratio of ours to it; for narrowing, joins and common texts then that to our equality to the letter on the same pairs. Least and greatest text");
+    puts("and the sweep have one plain C. Equality but for padding makes a second pass on pairs that are none to the letter; the ratio without these follows, and the greatest of a pair.");
     printf("%-52s %12s %12s %6s %12s %6s %8s\n", "", "ours", "bytes", "ratio", "rows", "ratio", "to equal");
     bounds("8 blocks, 40 characters", 8, 40);
     bounds("32 blocks, 250 characters", 32, 250);

@@ -56,36 +56,41 @@ uint64_t plain_fits(const uint64_t *s, size_t n, const uint8_t *t, size_t k) {
     return after[0];
 }
 
-// The least or (up) the greatest text of a checked shape.
-static inline size_t extreme(int up, const uint64_t *s, size_t n, uint8_t *out) {
-    uint64_t count[32];
-    uint8_t taken[32];
-    int succ = -1; // the end; 2c + 1 just above c, 2c - 1 just below it, against 2c
-    for (size_t i = n / 4; i-- > 0;) {
-        const uint64_t *w = s + 4 * i;
-        count[i] = 0;
-        if (w[3] == 0) continue;
-        int c = up ? (w[1] ? 127 - __builtin_clzll(w[1]) : 63 - __builtin_clzll(w[0])) : w[0] ? __builtin_ctzll(w[0]) : 64 + __builtin_ctzll(w[1]);
-        int first = up ? 2 * c > succ : 2 * c < succ;
-        taken[i] = c;
-        count[i] = first ? w[3] : w[2];
-        if (count[i]) succ = first != up ? 2 * c + 1 : 2 * c - 1;
-    }
-    size_t at = 0;
-    for (size_t i = 0; i < n / 4; i++) {
-        if (!count[i]) continue;
-        memset(out + at, taken[i], count[i]);
-        at += count[i];
-    }
-    return at;
+// How often a block takes its character c before the successor, which becomes that before the block: -1 the end, 2c + 1 just above c, 2c - 1 just below it.
+static inline uint64_t choose(int up, const uint64_t *w, int *succ, int *c) {
+    if (w[3] == 0) return 0;
+    *c = up ? (w[1] ? 127 - __builtin_clzll(w[1]) : 63 - __builtin_clzll(w[0])) : w[0] ? __builtin_ctzll(w[0]) : 64 + __builtin_ctzll(w[1]);
+    int first = up ? 2 * *c > *succ : 2 * *c < *succ;
+    uint64_t count = first ? w[3] : w[2];
+    if (count) *succ = first != up ? 2 * *c + 1 : 2 * *c - 1;
+    return count;
 }
 
-uint64_t plain_least(const uint64_t *s, size_t n, uint8_t *out, size_t k) {
+// The least or (up) the greatest text of a checked shape: its length, then the text from its end, with no choice kept.
+static inline size_t extreme_text(int up, const uint64_t *s, size_t n, uint8_t *out) {
+    size_t length = 0;
+    int c, succ = -1;
+    for (size_t i = n; i > 0; i -= 4) length += choose(up, s + i - 4, &succ, &c);
+    succ = -1;
+    for (size_t i = n, at = length; i > 0; i -= 4) {
+        uint64_t count = choose(up, s + i - 4, &succ, &c);
+        if (!count) continue;
+        at -= count;
+        memset(out + at, c, count);
+    }
+    return length;
+}
+
+static inline uint64_t checked_extreme(int up, const uint64_t *s, size_t n, uint8_t *out, size_t k) {
     if (!plain_check(s, n) || k < 250) return 1000;
-    return extreme(0, s, n, out);
+    return extreme_text(up, s, n, out);
 }
 
-size_t plain_extreme(int up, const uint64_t *s, size_t n, uint8_t *out) { return extreme(up, s, n, out); }
+uint64_t plain_least(const uint64_t *s, size_t n, uint8_t *out, size_t k) { return checked_extreme(0, s, n, out, k); }
+
+uint64_t plain_greatest(const uint64_t *s, size_t n, uint8_t *out, size_t k) { return checked_extreme(1, s, n, out, k); }
+
+size_t plain_extreme(int up, const uint64_t *s, size_t n, uint8_t *out) { return extreme_text(up, s, n, out); }
 
 // The quick sweep by document 01's steps. Places are block numbers from 1 and offsets.
 struct place {
@@ -391,8 +396,8 @@ static int one_side(int up, int strict, const uint64_t *x, size_t nx, const uint
 static uint64_t order(int strict, const uint64_t *x, size_t nx, const uint64_t *y, size_t ny, uint8_t *t, size_t w, uint64_t *ox, size_t a, uint64_t *oy, size_t b) {
     if (!plain_check(x, nx) || !plain_check(y, ny) || w < 63001 || a < nx || b < ny) return 1000;
     uint8_t text[250];
-    uint64_t some = one_side(0, strict, x, nx, text, extreme(1, y, ny, text), t, ox);
-    if (some) some = one_side(1, strict, y, ny, text, extreme(0, x, nx, text), t, oy);
+    uint64_t some = one_side(0, strict, x, nx, text, extreme_text(1, y, ny, text), t, ox);
+    if (some) some = one_side(1, strict, y, ny, text, extreme_text(0, x, nx, text), t, oy);
     memset(t, 0, 63001);
     return some;
 }

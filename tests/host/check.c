@@ -4,17 +4,14 @@
 // Each case is called four times: with the first byte of its three buffers right behind memory that may not be touched, and with
 // their last byte right before such memory; both over two fillings of report and work. The four lines have to be the same. Then two
 // threads at once call all cases again, on stacks with no more room than the header asks for, and have to come to the same lines.
+#include "checking.h"
 #include "wedgeotter.h"
 #include <pthread.h>
 #include <signal.h>
-#include <stdio.h>
-#include <stdlib.h>
 #include <string.h>
 #include <sys/mman.h>
 #include <sys/wait.h>
 #include <unistd.h>
-
-#define FAIL(...) (fputs("check: ", stderr), fprintf(stderr, __VA_ARGS__), fputs("\n", stderr), exit(1))
 
 // What there is room for.
 #define LONGEST_INPUT 4194304
@@ -72,8 +69,6 @@ static struct one {
     const char *line; // what came of it first
 } cases[MOST_CASES];
 static size_t count;
-
-static int digit(char c) { return c >= '0' && c <= '9' ? c - '0' : c >= 'a' && c <= 'f' ? c - 'a' + 10 : -1; }
 
 // A length in hex and the blank behind it.
 static size_t length_read(const char **at, size_t most) {
@@ -146,17 +141,14 @@ static void finish(pthread_t thread) {
 // So many bytes at the start of an area or at its end.
 static uint8_t *placed(struct area area, size_t length, int at_end) { return at_end ? area.low + area.size - length : area.low; }
 
-// The call, with the stack below painted before and looked at after. Nothing else is called here, so that nothing else is counted.
-#define PAINT 0xa5c3e1870f2d4b69
+// The call, with the stack below measured.
 __attribute__((noinline))
 static int64_t measured(struct host *host, const uint8_t *book, const struct one *one, uint8_t *report, uint8_t *work) {
-    volatile uint64_t *low = (uint64_t *)host->stack.low, *top, *at;
-    __asm__ volatile("movq %%rsp, %0" : "=r"(top));
-    for (at = low; at < top; at++) *at = PAINT;
-    int64_t answer = wedgeotter_run_file(book, one->length, report, one->report, work, one->work);
-    for (at = low; at < top && *at == PAINT; at++) {
-    }
-    size_t used = (size_t)((uintptr_t)top - (uintptr_t)at);
+    volatile uint64_t *top;
+    int64_t answer;
+    size_t used;
+    STACK_TOP(top);
+    MEASURED((uint64_t *)host->stack.low, top, used, answer = wedgeotter_run_file(book, one->length, report, one->report, work, one->work));
     if (used > host->stack_used) host->stack_used = used;
     return answer;
 }
@@ -181,10 +173,7 @@ static void call(struct host *host, const struct one *one, const uint8_t *book, 
     size_t written = answer < 0 ? 0 : (uint64_t)answer > one->report ? one->report : (size_t)answer;
     int kept = memcmp(report + written, report_found + written, one->report - written) == 0;
     char *to = host->line + snprintf(host->line, 32, "%ld ", answer);
-    for (size_t i = 0; i < written; i++) {
-        *to++ = "0123456789abcdef"[report[i] >> 4];
-        *to++ = "0123456789abcdef"[report[i] & 15];
-    }
+    for (size_t i = 0; i < written; i++) to = hex_pair(to, report[i]);
     if (written == 0) *to++ = '-';
     snprintf(to, 32, " %s %s", kept ? "kept" : "changed", work_shown(work, work_found, one->work));
 }

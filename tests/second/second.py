@@ -12,9 +12,9 @@ that are looked at by the definition alone (witnesses.py).
     second.py example                  prints document 01's book, its rule of four numbers
     second.py witnesses CASES LINES    holds the expected lines of large cases of narrowing to fillings
 
-NAME is base, sweep, narrow, common, book, file or host. A case is a line, its fields parted by single blanks. A number
-is lowercase hex without needless zeros. A list is its count and then its numbers; a shape is lent as any
-count of 64-bit numbers, also none. Expected counts, and what a refusal tells, are decimal.
+NAME is base, sweep, narrow, common, book, file, host or reader. A case is a line, its fields parted by single
+blanks. A number is lowercase hex without needless zeros. A list is its count and then its numbers; a shape is
+lent as any count of 64-bit numbers, also none. Expected counts, and what a refusal tells, are decimal.
 
 base. A text is its bytes as hex pairs, `-` if it is empty. The words w are the rest of the line.
 
@@ -64,6 +64,12 @@ bytes written as hex pairs, whether the rest of the report is as found, and the 
 bytes are 0 and the rest as found, kept where all of it is as found.
 
     r k book         length bytes kept zeroed | -number - kept kept
+
+reader. Least and greatest text as tests/host/reader.c calls them; nothing is stored of it. As L and G of base, but that
+of a refusal only the output is shown.
+
+    L n w w ..       text length output | refused output
+    G n w w ..       the same with the greatest text
 """
 
 import sys
@@ -75,10 +81,14 @@ import common
 import file
 import host
 import narrow
+import reader
 import sweep
 import witnesses
 
-NAMES = {"base": base, "sweep": sweep, "narrow": narrow, "common": common, "book": book, "file": file, "host": host}
+NAMES = {
+    "base": base, "sweep": sweep, "narrow": narrow, "common": common, "book": book, "file": file, "host": host,
+    "reader": reader,
+}
 
 # More than a stored file should have.
 STORED_ROOM = 2_000_000

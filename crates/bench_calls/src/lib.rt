@@ -1,4 +1,5 @@
-// The calls as C functions on numbers, for the benchmark alone: an answer becomes a number, a refusal 1000 or more.
+// The calls as C functions on numbers, for the benchmark and for the measuring of stack: an answer becomes a number, a
+// refusal 1000 or more.
 use answers::Fit;
 use answers::Narrowed;
 use answers::Ran;
@@ -15,12 +16,22 @@ pub extern "C" fn wedgeotter_fits(shape: &[u64], text: &[u8]) -> u64 {
     }
 }
 
-#[no_mangle]
-pub extern "C" fn wedgeotter_least(shape: &[u64], out: &mut [u8]) -> u64 {
-    match dashed::least_text(shape, out) {
+// The text's length.
+fn written(answer: Written) -> u64 {
+    match answer {
         Written::Text(n) => n as u64,
         Written::Refused(_) => 1000,
     }
+}
+
+#[no_mangle]
+pub extern "C" fn wedgeotter_least(shape: &[u64], out: &mut [u8]) -> u64 {
+    written(dashed::least_text(shape, out))
+}
+
+#[no_mangle]
+pub extern "C" fn wedgeotter_greatest(shape: &[u64], out: &mut [u8]) -> u64 {
+    written(dashed::greatest_text(shape, out))
 }
 
 // The looks made, and 100000 for cannot.

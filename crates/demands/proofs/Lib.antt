@@ -12,3 +12,4 @@ pub mod Request3
 pub mod Request4
 pub mod Cannot
 pub mod Request5
+pub mod Request6

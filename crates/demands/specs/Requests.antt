@@ -20,6 +20,9 @@ use Rattle.shapes.specs.Lent.{shapeOf, wordsOf, RightLength, Accepted}
 use Rattle.texts.specs.Order.{AtMost}
 use Rattle.texts.specs.Padding.{blank, trimmed, Padded, BlanksBehind}
 use Rattle.texts.specs.Kind.{relationOf, paddedKind, atMostKind, beforeKind, joinKind, exactKind}
+use Rattle.extreme_steps.specs.declared.Direction.{Direction}
+use Rattle.extreme_steps.specs.declared.Direction.the-variants.{Least, Greatest}
+use Rattle.extreme_steps.specs.Steps.{extreme}
 use Rattle.rules.specs.declared.Rule.{Rule}
 use Rattle.rules.specs.Rule.{ruleAt, ruleCount, ruleWith, numbersOfAll}
 use Rattle.hulls.specs.Book.{Within}
@@ -37,7 +40,7 @@ use Rattle.file_runs.specs.Ends.{FileEnds}
 use Rattle.file_reports.specs.Report.{Verdict, reportOf}
 use Rattle.host_calls.specs.Host.{negated, handed}
 use Rattle.dashed.specs.Promises.{CheckShape, FitsShape, LeastText, GreatestText, Sweep, NarrowPadded, NarrowExact, NarrowAtMost, NarrowBefore, NarrowJoin, CommonText, RunBook, RunFile, RunHost}
-use Rattle.demands.specs.Demands.{NarrowCall}
+use Rattle.demands.specs.Demands.{NarrowCall, TextRefused}
 
 -- A call tells t: every answer that its promise permits is a refusal that tells t.
 abbrev pub Tells : {Answer : Type 0} → (Refusal → Answer) → (Answer → Type 0) → Told → Type 0
@@ -291,3 +294,18 @@ pub record Request5 : Type 0 where
   -- "Refusals: none new; kind 4 joins those that 7 lets pass": a rule of kind 4 is right exactly if it were with kind 0, and none of a later kind is
   pub four-right : (counts : List ℕ) (a b c : ℕ) → RightRule counts (ruleWith 4 a b c) ↔ RightRule counts (ruleWith 0 a b c)
   pub five-wrong : (counts : List ℕ) (t : Rule) → 4 < t .kind → RightRule counts t → ⊥
+
+-- ---- order 6
+
+-- What least and greatest text hand back, whatever they keep on the way.
+pub record AsBefore (d : Direction) (Call : List ℕ → List ℕ → List ℕ → Written → Type 0) : Type 0 where
+  -- "The same bytes in the same output": at its start, as many as the count says, those of document 01's steps
+  pub bytes : {xs out out′ : List ℕ} (n : ℕ) → Call xs out out′ (Written.Text n) → (take n out′ ≡ extreme d (shapeOf xs)) × (n ≡ length (extreme d (shapeOf xs)))
+  -- "nothing else altered"
+  pub rest : {xs out out′ : List ℕ} (n : ℕ) → Call xs out out′ (Written.Text n) → drop n out′ ≡ drop n out
+  -- "Refusals: none": there are the shape's and 5, and no other
+  pub refused : {xs out out′ : List ℕ} (q : Refusal) → Call xs out out′ (Written.Refused q) → TextRefused xs out (told q)
+
+pub record Request6 : Type 0 where
+  pub least : AsBefore Least LeastText
+  pub greatest : AsBefore Greatest GreatestText

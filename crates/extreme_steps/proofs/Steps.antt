@@ -1,20 +1,36 @@
 -- The steps of one block, as the code takes them. Assumes nothing.
 use mathlib.Core.Path.{_≡_, refl, sym, ap, ap₂, _∙_}
 use mathlib.Core.Bool.{Bool, true, false}
-use mathlib.Core.List.{List, [], _∷_}
+use mathlib.Core.List.{List, [], _++_}
 use Prim.Native.Nat.{ℕ, zero, suc, _+_, _/_, _≤_, _<_}
 use native.Mathlib.Omega.{arith}
+use lib.Dec.{leb, ltb, leb·zero, leb·suc-suc}
 use lib.ListN.{length, drop, replicate}
+use borrow.Author.Tests.{le-ltb}
 use Rattle.bases.specs.Base.{Empty}
-use Rattle.shapes.specs.Shape.{Block, Sound}
+use Rattle.shapes.specs.Shape.{Block, Sound, textOf}
 use Rattle.shapes.specs.Lent.{shapeOf, blockAt}
 use Rattle.shapes.proofs.Lent.{shape-from, none-left}
 use Rattle.extreme_steps.specs.declared.Direction.{Direction}
 use Rattle.extreme_steps.specs.declared.Direction.the-variants.{Least, Greatest}
 use Rattle.extreme_steps.specs.declared.Successor.{Successor}
-use Rattle.extreme_steps.specs.declared.Successor.the-variants.{End}
-use Rattle.extreme_steps.specs.Code.{charIn}
-use Rattle.extreme_steps.specs.Steps.{charOf, goesFirst, takesOf, onwards, unless, taken, after, successor, runs}
+use Rattle.extreme_steps.specs.declared.Successor.the-variants.{End, Above, Below}
+use Rattle.extreme_steps.specs.Code.{charIn, codesBelow, onTaking, textFrom}
+use Rattle.extreme_steps.specs.Steps.{charOf, goesFirst, takesOf, onwards, unless, taken, after, successor, runs, extreme}
+
+-- ---- which character goes first, by the codes below the successor
+
+pub goes-least : (c : ℕ) (s : Successor) → ltb c (codesBelow s) ≡ goesFirst Least c s
+goes-least c End = le-ltb c 0 (omega arith)
+goes-least c (Above e) = let more : e + 1 ≡ suc e = omega arith in ap (ltb c) more ∙ leb·suc-suc c e
+goes-least c (Below e) = refl
+
+pub goes-greatest : (c : ℕ) (s : Successor) → leb (codesBelow s) c ≡ goesFirst Greatest c s
+goes-greatest c End = leb·zero c
+goes-greatest c (Above e) = let more : e + 1 ≡ suc e = omega arith in ap (λ (n : ℕ). leb n c) more
+goes-greatest c (Below e) = refl
+
+-- ---- what a block takes, and where it takes nothing
 
 none-counted : (f : Bool) (b : Block) → Sound b → b .upper ≡ 0 → 0 ≡ takesOf f b
 none-counted true b ok z = sym z
@@ -29,9 +45,13 @@ unless-zero : (k : ℕ) (s n : Successor) → k ≡ 0 → s ≡ unless k s n
 unless-zero zero s n e = refl
 unless-zero (suc k) s n e = absurd (omega arith)
 
-unless-some : (k : ℕ) (s n : Successor) → (k ≡ 0 → ⊥) → n ≡ unless k s n
-unless-some zero s n e = absurd (e refl)
-unless-some (suc k) s n e = refl
+pub on-taking : (k n m : ℕ) → (k ≡ 0 → ⊥) → m ≡ onTaking k n m
+on-taking zero n m h = absurd (h refl)
+on-taking (suc k) n m h = refl
+
+unless-codes : (k : ℕ) (s n : Successor) → onTaking k (codesBelow s) (codesBelow n) ≡ codesBelow (unless k s n)
+unless-codes zero s n = refl
+unless-codes (suc k) s n = refl
 
 -- a block of some upper has a character
 pub has-character : (b : Block) → Sound b → (b .upper ≡ 0 → ⊥) → Empty (b .base) → ⊥
@@ -70,17 +90,13 @@ module _ {d : Direction} {b : Block} {s : Successor} {c n : ℕ} {f : Bool} (k :
   count : n ≡ taken d b s
   count = k .counted ∙ ap (λ (x : Bool). takesOf x b) goes
 
-  pub none-run : n ≡ 0 → [] ≡ replicate (taken d b s) (charOf d (b .base))
-  none-run z = ap (λ (x : ℕ). replicate x (charOf d (b .base))) (sym z ∙ count)
+  pub chosen-run : replicate n (charIn (onwards d f c)) ≡ replicate (taken d b s) (charOf d (b .base))
+  chosen-run = ap₂ (λ (x y : ℕ). replicate x y) count (char-onward d f c ∙ k .character)
 
-  pub some-run : replicate n (charIn (onwards d f c)) ≡ replicate (taken d b s) (charOf d (b .base))
-  some-run = ap₂ (λ (x y : ℕ). replicate x y) count (char-onward d f c ∙ k .character)
-
-  pub none-after : n ≡ 0 → s ≡ after d b s
-  none-after z = unless-zero (taken d b s) s _ (sym count ∙ z)
-
-  pub some-after : (n ≡ 0 → ⊥) → onwards d f c ≡ after d b s
-  some-after m = ap₂ (λ (x : Bool) (y : ℕ). onwards d x y) goes (k .character) ∙ unless-some (taken d b s) s _ (λ z. m (count ∙ z))
+  pub chosen-codes : onTaking n (codesBelow s) (codesBelow (onwards d f c)) ≡ codesBelow (after d b s)
+  chosen-codes =
+      unless-codes n s (onwards d f c)
+      ∙ ap₂ (λ (m : ℕ) (t : Successor). codesBelow (unless m s t)) count (ap₂ (λ (x : Bool) (y : ℕ). onwards d x y) goes (k .character))
 
 -- ---- the blocks of a lent shape, from the last to the first
 
@@ -89,19 +105,20 @@ module _ (d : Direction) (xs : List ℕ) where
   unfolding successor
   successor-end = sym (ap (successor d) (none-left xs))
 
-  pub runs-end : [] ≡ runs d (drop (length xs / 4) (shapeOf xs))
-  unfolding runs
-  runs-end = sym (ap (runs d) (none-left xs))
+  pub text-end : textFrom d xs (length xs / 4) ≡ []
+  unfolding runs textOf
+  text-end = ap (extreme d) (none-left xs)
 
-  -- one turn of the loop: block i, from 0, is b, and n follows it
-  module _ (i : ℕ) (b : Block) (n : Successor) (here : i < length xs / 4) (at : b ≡ blockAt xs i) (behind : n ≡ successor d (drop (i + 1) (shapeOf xs))) where
-    pub turn-successor : (r : Successor) → r ≡ after d b n → r ≡ successor d (drop i (shapeOf xs))
+  -- one step: block i, from 0, is b
+  module _ (i : ℕ) (b : Block) (here : i < length xs / 4) (at : b ≡ blockAt xs i) where
+    pub step-codes : (n : ℕ) → n ≡ codesBelow (after d b (successor d (drop (i + 1) (shapeOf xs)))) → n ≡ codesBelow (successor d (drop i (shapeOf xs)))
     unfolding successor
-    turn-successor r e = e ∙ ap₂ (λ (x : Block) (y : Successor). after d x y) at behind ∙ sym (ap (successor d) (shape-from xs i here))
+    step-codes n e =
+        e ∙ ap (λ (x : Block). codesBelow (after d x (successor d (drop (i + 1) (shapeOf xs))))) at
+        ∙ sym (ap (λ (x : List Block). codesBelow (successor d x)) (shape-from xs i here))
 
-    pub turn-runs : (r : List ℕ) (rs : List (List ℕ)) → r ≡ replicate (taken d b n) (charOf d (b .base)) → rs ≡ runs d (drop (i + 1) (shapeOf xs))
-        → r ∷ rs ≡ runs d (drop i (shapeOf xs))
-    unfolding runs
-    turn-runs r rs e h =
-        ap₂ (λ (x : List ℕ) (y : List (List ℕ)). x ∷ y) (e ∙ ap₂ (λ (x : Block) (y : Successor). replicate (taken d x y) (charOf d (x .base))) at behind) h
-        ∙ sym (ap (runs d) (shape-from xs i here))
+    pub step-text : (r : List ℕ) → r ≡ replicate (taken d b (successor d (drop (i + 1) (shapeOf xs)))) (charOf d (b .base)) → r ++ textFrom d xs (i + 1) ≡ textFrom d xs i
+    unfolding runs textOf
+    step-text r e =
+        ap (λ (l : List ℕ). l ++ textFrom d xs (i + 1)) (e ∙ ap (λ (x : Block). replicate (taken d x (successor d (drop (i + 1) (shapeOf xs)))) (charOf d (x .base))) at)
+        ∙ sym (ap (extreme d) (shape-from xs i here))

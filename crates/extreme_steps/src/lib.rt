@@ -2,14 +2,16 @@
 use sets::Set;
 use shapes::Block;
 ghost use mathlib.Core.Path.{_≡_};
-ghost use Prim.Native.Nat.{_^_, _<_};
-ghost use lib.ListN.{replicate};
+ghost use mathlib.Core.List.{_++_};
+ghost use Prim.Native.Nat.{_+_, _^_, _<_};
+ghost use lib.ListN.{drop};
 ghost use Rattle.bases.specs.Base.{Empty, codes};
 ghost use Rattle.sets.specs.Set.{setOf};
-ghost use Rattle.shapes.specs.Shape.{Sound, Small};
-ghost use Rattle.shapes.specs.Lent.{meant};
-ghost use Rattle.extreme_steps.specs.Steps.{charOf, goesFirst, takesOf, onwards, taken, after};
-ghost use Rattle.extreme_steps.specs.Code.{charIn, runOf};
+ghost use Rattle.shapes.specs.Shape.{blockCount};
+ghost use Rattle.shapes.specs.Lent.{meant, shapeOf, Accepted};
+ghost use Rattle.extreme_steps.specs.declared.Successor.{Successor};
+ghost use Rattle.extreme_steps.specs.Steps.{charOf, goesFirst, takesOf, onwards, successor};
+ghost use Rattle.extreme_steps.specs.Code.{charIn, codesBelow, codesOnward, runOf, textFrom};
 
 // Which text is wanted.
 pub enum Direction {
@@ -24,26 +26,30 @@ pub enum Successor {
     Below(u8),
 }
 
-// What a block chooses: how often it takes its character, and the successor before it, which tells the character.
+// What a block chooses: how often it takes its character, and the successor once it has, which tells the character.
 pub struct Choice {
     pub successor: Successor,
     pub count: u8,
 }
 
-fn goes_first(d: Direction, c: u8, s: Successor) -> bool
-    ensures { λ r. ⌜ r ≡ goesFirst d c s ⌝ }
+// How many codes lie below a successor, which is all that a block asks of it.
+pub fn codes_below(s: Successor) -> u64
+    ensures { λ r. ⌜ r ≡ codesBelow s ⌝ }
+{
+    match s {
+        Successor::End => 0u64,
+        Successor::Above(c) => c as u64 + 1,
+        Successor::Below(c) => c as u64,
+    }
+}
+
+// Whether c goes first where so many codes lie below the successor.
+fn goes_first(d: Direction, c: u8, below: u64) -> bool
+    ensures { λ r. ⌜ ((s : Successor) → below ≡ codesBelow s → r ≡ goesFirst d c s) ⌝ }
 {
     match d {
-        Direction::Least => match s {
-            Successor::End => false,
-            Successor::Above(e) => c <= e,
-            Successor::Below(e) => c < e,
-        },
-        Direction::Greatest => match s {
-            Successor::End => true,
-            Successor::Above(e) => e < c,
-            Successor::Below(e) => e <= c,
-        },
+        Direction::Least => (c as u64) < below,
+        Direction::Greatest => below <= (c as u64),
     }
 }
 
@@ -89,30 +95,38 @@ fn onward(d: Direction, first: bool, c: u8) -> Successor
     }
 }
 
-// What a sound block chooses where s follows it.
-pub fn choose(d: Direction, b: Block, s: Successor) -> Choice
-    requires { ⌜ Sound (meant b) ⌝ }
-    requires { ⌜ Small (meant b) ⌝ }
-    ensures { λ r. ⌜ runOf r ≡ replicate (taken d (meant b) s) (charOf d (meant b .base)) ⌝ }
-    ensures { λ r. ⌜ r .successor ≡ after d (meant b) s ⌝ }
+// What block i, from 0, of an accepted shape chooses where so many codes lie below the successor of the blocks behind it.
+// Its run goes in front of their text.
+pub fn choose(d: Direction, shape: &[u64], i: usize, below: u64) -> Choice
+    requires { ⌜ Accepted (now shape) ⌝ }
+    requires { ⌜ i < blockCount (now shape) ⌝ }
+    requires { ⌜ below ≡ codesBelow (successor d (drop (i + 1) (shapeOf (now shape)))) ⌝ }
+    ensures { λ r. ⌜ runOf r ++ textFrom d (now (shape .entry)) (i + 1) ≡ textFrom d (now (shape .entry)) i ⌝ }
+    ensures { λ r. ⌜ codesOnward r below ≡ codesBelow (successor d (drop i (shapeOf (now (shape .entry))))) ⌝ }
 {
+    let b = shapes::block_at(shape, i);
     if b.upper == 0 {
         return Choice {
-            successor: s,
+            successor: Successor::End,
             count: 0,
         };
     }
     let c = char_of(d, b.base);
-    let first = goes_first(d, c, s);
+    let first = goes_first(d, c, below);
     let count = count_of(first, b) as u8;
-    if count == 0 {
-        return Choice {
-            successor: s,
-            count: 0,
-        };
-    }
     let successor = onward(d, first, c);
     Choice { successor, count }
+}
+
+// How many codes lie below the successor once a block has chosen: as many as before where it takes nothing.
+pub fn codes_onward(k: Choice, below: u64) -> u64
+    ensures { λ r. ⌜ r ≡ codesOnward k below ⌝ }
+{
+    if k.count == 0 {
+        return below;
+    }
+    let s = k.successor;
+    codes_below(s)
 }
 
 // The character that a successor is just above or just below.

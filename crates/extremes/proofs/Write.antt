@@ -1,19 +1,18 @@
--- How the text is written, run by run. Assumes nothing.
+-- How the text is written, run by run, from its end. Assumes nothing.
 use mathlib.Core.Path.{_≡_, refl, sym, ap, ap₂, _∙_}
 use mathlib.Core.List.{List, [], _∷_, _++_, append-nil, append-assoc}
-use Prim.Native.Nat.{ℕ, zero, suc, _+_, _-_, _≤_, _<_}
-use native.Mathlib.Numerals.{add-one}
+use Prim.Native.Nat.{ℕ, zero, suc, _+_, _-_, _≤_}
 use native.Mathlib.Omega.{arith}
-use lib.ListN.{length, getD, take, drop, replicate, set, length-append, length-replicate, length-take, length-drop, length-set, drop-of-length-le, take-append-drop}
-use lib.Seq.{take-suc, take-all, take-at, drop-at, drop-drop, drop-cons, getD-set-same, drop-set-lt, getD-take}
+use lib.ListN.{length, take, drop, replicate, length-append, length-replicate, length-take, length-drop, drop-of-length-le, take-append-drop}
+use lib.Seq.{drop-at, drop-drop, take-append-le}
 use Rattle.shapes.specs.All.{All}
-use Rattle.shapes.specs.Shape.{Small, textOf}
+use Rattle.shapes.specs.Shape.{Block, Small, textOf}
 use Rattle.shapes.specs.Lent.{shapeOf, Accepted}
 use Rattle.shapes.proofs.Fits.{filling-length}
 use Rattle.extreme_steps.specs.declared.Direction.{Direction}
 use Rattle.extreme_steps.specs.declared.Choice.{Choice}
-use Rattle.extreme_steps.specs.Steps.{extreme}
-use Rattle.extreme_steps.specs.Code.{charIn, runOf, runsOf}
+use Rattle.extreme_steps.specs.Steps.{charOf, taken, successor, runs, extreme}
+use Rattle.extreme_steps.specs.Code.{charIn, runOf, textFrom}
 use Rattle.extremes.proofs.Best.{runs-fill}
 
 -- ---- one run in its place
@@ -32,112 +31,69 @@ put-some at count v w out q h e f =
     ap (λ (l : List ℕ). take at out ++ l)
     (ap₂ (λ (a b : List ℕ). a ++ b) (f ∙ ap₂ (λ (n x : ℕ). replicate n x) long e) (drop-drop (at + count - at) at out ∙ ap (λ (n : ℕ). drop n out) there))
 
--- ---- the runs of choices, set from the last to the first
-
--- the choice that is set in front of those behind it
-here : (ks : List Choice) (i : ℕ) (k : Choice) → i < length ks → drop i (set ks i k) ≡ k ∷ drop (i + 1) ks
-here ks i k h =
-    drop-cons (set ks i k) i k (let e = length-set ks i k in omega arith)
-    ∙ ap₂ (λ (x : Choice) (m : List Choice). x ∷ m) (getD-set-same ks i k k h) (drop-set-lt (suc i) ks i k (omega arith) ∙ ap (λ (m : ℕ). drop m ks) (sym (add-one i)))
-
--- the runs of the choices from i on, of n in all
-abbrev pub runsFrom : List Choice → ℕ → ℕ → List (List ℕ)
-runsFrom ks n i = take (n - i) (runsOf (drop i ks))
-
-pub runs-none : (ks : List Choice) (n : ℕ) → runsFrom ks n n ≡ []
-runs-none ks n = let none : n - n ≡ 0 = omega arith in ap (λ (m : ℕ). take m (runsOf (drop n ks))) none
-
-pub runs-set : (ks : List Choice) (n i : ℕ) (k : Choice) → i < n → i < length ks → runsFrom (set ks i k) n i ≡ runOf k ∷ runsFrom ks n (i + 1)
-unfolding runsOf
-runs-set ks n i k h g =
-    let one : n - i ≡ suc (n - (i + 1)) = omega arith in
-    ap₂ (λ (m : ℕ) (l : List Choice). take m (runsOf l)) one (here ks i k g)
-
-run-at : (ks : List Choice) (i : ℕ) (z : Choice) → i < length ks → getD (runsOf ks) i [] ≡ runOf (getD ks i z)
-unfolding runsOf
-run-at [] i z h = absurd (omega arith)
-run-at (k ∷ ks) zero z h = refl
-run-at (k ∷ ks) (suc i) z h = run-at ks i z (omega arith)
-
-runs-length : (ks : List Choice) → length (runsOf ks) ≡ length ks
-unfolding runsOf
-runs-length [] = refl
-runs-length (k ∷ ks) = ap suc (runs-length ks)
-
--- ---- the runs so far
+-- ---- the text from a block on
 
 pub text-append : (f g : List (List ℕ)) → textOf (f ++ g) ≡ textOf f ++ textOf g
 unfolding textOf
 text-append [] g = refl
 text-append (r ∷ f) g = ap (λ (l : List ℕ). r ++ l) (text-append f g) ∙ sym (append-assoc r (textOf f) (textOf g))
 
-text-one : (r : List ℕ) → textOf (r ∷ []) ≡ r
-unfolding textOf
-text-one r = append-nil r
-
-text-more : (f : List (List ℕ)) (i : ℕ) → i < length f → textOf (take (i + 1) f) ≡ textOf (take i f) ++ getD f i []
-text-more f i h = ap textOf (ap (λ (n : ℕ). take n f) (add-one i) ∙ take-suc f i [] h) ∙ text-append (take i f) (getD f i [] ∷ []) ∙ ap (λ (l : List ℕ). textOf (take i f) ++ l) (text-one (getD f i []))
-
-text-front : (f : List (List ℕ)) (i : ℕ) → length (textOf (take i f)) ≤ length (textOf f)
-text-front f i =
-    let whole : length (textOf (take i f) ++ textOf (drop i f)) ≡ length (textOf f) = ap length (sym (text-append (take i f) (drop i f)) ∙ ap textOf (take-append-drop i f)) in
-    let parts = length-append (textOf (take i f)) (textOf (drop i f)) in
+from-short : (d : Direction) (s : List Block) (i : ℕ) → length (extreme d (drop i s)) ≤ length (extreme d s)
+unfolding runs textOf
+from-short d s zero = omega arith
+from-short d [] (suc i) = omega arith
+from-short d (b ∷ s) (suc i) =
+    let h = from-short d s i in
+    let l = length-append (replicate (taken d b (successor d s)) (charOf d (b .base))) (extreme d s) in
     omega arith
 
--- the output after one run more
-pub out-more : (at count : ℕ) (t r out out₀ out′ : List ℕ) → at ≡ length t → count ≡ length r → out ≡ t ++ drop at out₀ → out′ ≡ take at out ++ (r ++ drop (at + count) out)
-    → out′ ≡ (t ++ r) ++ drop (at + count) out₀
-out-more at count t r out out₀ out′ e g h f =
-    let front : take at out ≡ t = ap (take at) h ∙ take-at t (drop at out₀) at (sym e) in
-    let back : drop at out ≡ drop at out₀ = ap (drop at) h ∙ drop-at t (drop at out₀) at (sym e) in
-    let rest : drop (at + count) out ≡ drop (at + count) out₀ = sym (drop-drop count at out) ∙ ap (drop count) back ∙ drop-drop count at out₀ in
-    f ∙ ap₂ (λ (a b : List ℕ). a ++ (r ++ b)) front rest ∙ sym (append-assoc t r (drop (at + count) out₀))
-
--- the text of the first i runs, of n in all
-abbrev pub soFar : List Choice → ℕ → ℕ → List ℕ
-soFar ks n i = textOf (take i (runsFrom ks n 0))
-
-pub none-yet : (ks : List Choice) (n : ℕ) → soFar ks n 0 ≡ []
-unfolding textOf
-none-yet ks n = refl
-
-module _ (ks : List Choice) (n : ℕ) (few : n ≤ length ks) where
-  long : length (runsFrom ks n 0) ≡ n
-  long = let t = length-take (n - 0) (runsOf ks) in let r = runs-length ks in omega arith
-
-  -- at the last run the text is whole
-  pub text-whole : (i : ℕ) → n ≤ i → soFar ks n i ≡ textOf (runsFrom ks n 0)
-  text-whole i h = ap textOf (take-all i (runsFrom ks n 0) (let l = long in omega arith))
-
-  -- one turn of the loop that writes: the run of choice i, from 0, goes to the place `at`
-  module _ (i at : ℕ) (z : Choice) (h : i < n) (g : at ≡ length (soFar ks n i)) where
-    run : List ℕ
-    run = runOf (getD ks i z)
-
-    more : soFar ks n (i + 1) ≡ soFar ks n i ++ run
-    unfolding run
-    more =
-        text-more (runsFrom ks n 0) i (let l = long in omega arith)
-        ∙ ap (λ (l : List ℕ). soFar ks n i ++ l) (getD-take (n - 0) (runsOf ks) i [] (omega arith) ∙ run-at ks i z (omega arith))
-
-    pub turn-length : at + getD ks i z .count ≡ length (soFar ks n (i + 1))
-    unfolding run
-    turn-length =
-        let l = ap length more ∙ length-append (soFar ks n i) run in
-        let r = length-replicate (getD ks i z .count) (charIn (getD ks i z .successor)) in
-        omega arith
-
-    pub turn-room : at + getD ks i z .count ≤ length (textOf (runsFrom ks n 0))
-    turn-room = let l = turn-length in let r = text-front (runsFrom ks n 0) (i + 1) in omega arith
-
-    pub turn-out : (out out₀ out′ : List ℕ) → out ≡ soFar ks n i ++ drop at out₀ → out′ ≡ take at out ++ (runOf (getD ks i z) ++ drop (at + getD ks i z .count) out)
-        → out′ ≡ soFar ks n (i + 1) ++ drop (at + getD ks i z .count) out₀
-    unfolding run
-    turn-out out out₀ out′ o p =
-        out-more at (getD ks i z .count) (soFar ks n i) run out out₀ out′ g (sym (length-replicate (getD ks i z .count) (charIn (getD ks i z .successor)))) o p
-        ∙ ap (λ (l : List ℕ). l ++ drop (at + getD ks i z .count) out₀) (sym more)
-
--- ---- the whole text keeps within 250
-
+-- a shape's text keeps within 250
 pub text-room : (d : Direction) (xs : List ℕ) → Accepted xs → All Small (shapeOf xs) → length (extreme d (shapeOf xs)) ≤ 250
 text-room d xs a small = let whole = filling-length (runs-fill d small (a .sound)) in let short = a .short in omega arith
+
+-- what block i, from 0, chooses, as characters: with those behind it they are no more than the whole text has
+pub run-counted : (d : Direction) (xs : List ℕ) (i j : ℕ) (k : Choice) → runOf k ++ textFrom d xs j ≡ textFrom d xs i
+    → (k .count + length (textFrom d xs j) ≡ length (textFrom d xs i)) × (length (textFrom d xs i) ≤ length (extreme d (shapeOf xs)))
+run-counted d xs i j k e =
+    let a = ap length e in
+    let l = length-append (runOf k) (textFrom d xs j) in
+    let r = length-replicate (k .count) (charIn (k .successor)) in
+    (omega arith, from-short d (shapeOf xs) i)
+
+-- ---- the output with some of the text in it
+
+take-front : (at count : ℕ) (l out : List ℕ) → length (take (at + count) out) ≡ at + count → take at (take (at + count) out ++ l) ≡ take at out
+take-front at count l out h =
+    let within : at ≤ length (take (at + count) out) = omega arith in
+    take-append-le at (take (at + count) out) l within ∙ sym (take-append-le at (take (at + count) out) (drop (at + count) out) within) ∙ ap (take at) (take-append-drop (at + count) out)
+
+-- t stands in the output from place `at` to place n, and all else is as found
+pub record StandsIn (at n : ℕ) (t out out′ : List ℕ) : Type 0 where
+  pub ends : at + length t ≡ n
+  pub bytes : out′ ≡ take at out ++ (t ++ drop n out)
+
+-- nothing yet
+pub stands-none : (n : ℕ) {t : List ℕ} (out : List ℕ) → t ≡ [] → StandsIn n n t out out
+stands-none n out e =
+    let none = ap length e in
+    record { ends = omega arith; bytes = sym (take-append-drop n out) ∙ sym (ap (λ (l : List ℕ). take n out ++ (l ++ drop n out)) e) }
+
+-- the run of one choice more, in front
+pub stands-more : (at n : ℕ) (k : Choice) {t u out out′ out″ : List ℕ} → StandsIn at n t out out′ → n ≤ length out → k .count ≤ at → runOf k ++ t ≡ u
+    → out″ ≡ take (at - k .count) out′ ++ (runOf k ++ drop (at - k .count + k .count) out′) → StandsIn (at - k .count) n u out out″
+stands-more at n k {t} {u} {out} {out′} h room fits e put =
+    let from : ℕ = at - k .count in
+    let end = h .ends in
+    let there : at ≡ from + k .count = omega arith in
+    let before : out′ ≡ take (from + k .count) out ++ (t ++ drop n out) = h .bytes ∙ ap (λ (m : ℕ). take m out ++ (t ++ drop n out)) there in
+    let all : length (take (from + k .count) out) ≡ from + k .count = let a = length-take (from + k .count) out in omega arith in
+    let back : drop (from + k .count) out′ ≡ t ++ drop n out = ap (drop (from + k .count)) before ∙ drop-at (take (from + k .count) out) (t ++ drop n out) (from + k .count) all in
+    let front : take from out′ ≡ take from out = ap (take from) before ∙ take-front from (k .count) (t ++ drop n out) out all in
+    let both = length-append (runOf k) t in
+    let run = length-replicate (k .count) (charIn (k .successor)) in
+    let whole = ap length e in
+    record {
+      ends = omega arith;
+      bytes = put ∙ ap₂ (λ (a b : List ℕ). a ++ (runOf k ++ b)) front back
+          ∙ ap (λ (l : List ℕ). take from out ++ l) (sym (append-assoc (runOf k) t (drop n out)) ∙ ap (λ (l : List ℕ). l ++ drop n out) e);
+    }

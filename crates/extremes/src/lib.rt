@@ -1,4 +1,5 @@
-// Least and greatest text, by document 01's steps: the choices from the last block to the first, then the text from the first to the last.
+// Least and greatest text, by document 01's steps, in two passes from the last block: the length, then the text from its
+// end.
 use answers::Checked;
 use answers::Refusal;
 use answers::Written;
@@ -9,8 +10,8 @@ ghost use mathlib.Core.Path.{_≡_};
 ghost use mathlib.Core.List.{_++_};
 ghost use Prim.Native.Nat.{_+_, _≤_, _<_};
 ghost use lib.ListN.{length, take, drop, replicate};
-ghost use Rattle.shapes.specs.Shape.{Sound};
-ghost use Rattle.shapes.specs.Lent.{Accepted};
+ghost use Rattle.shapes.specs.Lent.{shapeOf, Accepted};
+ghost use Rattle.extreme_steps.specs.Steps.{extreme};
 ghost use Rattle.extreme_steps.specs.Code.{runOf};
 ghost use Rattle.extremes.specs.Extreme.{TextWritten, ExtremePromise};
 
@@ -26,45 +27,53 @@ fn fill(part: &mut [u8], v: u8)
     }
 }
 
-// Writes a choice's run at a place of the output, and answers the place past it.
-fn put_run(k: Choice, out: &mut [u8], at: usize) -> usize
+// Writes a choice's run at a place of the output.
+fn put_run(k: Choice, out: &mut [u8], at: usize)
     requires { ⌜ at + k .count ≤ length (now out) ⌝ }
-    ensures { λ r. ⌜ r ≡ at + k .count ⌝ }
     ensures { λ _. ⌜ now (out .exit) ≡ take at (now (out .entry)) ++ (runOf k ++ drop (at + k .count) (now (out .entry))) ⌝ }
 {
     let s = k.successor;
     let c = extreme_steps::char_in(s);
     let end = at + k.count as usize;
     fill(&mut out[at..end], c);
-    end
 }
 
-// The least or the greatest text of a shape that is accepted, at the start of the output, and its length: the blocks choose from the last to the first, then their runs are written from the first to the last.
+// The length of the text: what the blocks choose, from the last to the first, counted.
+fn length_of(d: Direction, shape: &[u64]) -> usize
+    requires { ⌜ Accepted (now shape) ⌝ }
+    ensures { λ r. ⌜ r ≡ length (extreme d (shapeOf (now (shape .entry)))) ⌝ }
+{
+    let mut below = extreme_steps::codes_below(Successor::End);
+    let mut sum = 0;
+    let mut i = shape.len() / shapes::SIZE;
+    while 0 < i {
+        i -= 1;
+        let k = extreme_steps::choose(d, shape, i, below);
+        sum += k.count as usize;
+        below = extreme_steps::codes_onward(k, below);
+    }
+    sum
+}
+
+// The least or the greatest text of a shape that is accepted, at the start of the output, and its length. Each block's
+// run is written in front of those behind it, from the text's end on, so that no choice is kept.
 pub fn write_extreme(d: Direction, shape: &[u64], out: &mut [u8]) -> usize
     requires { ⌜ Accepted (now shape) ⌝ }
     requires { ⌜ 250 ≤ length (now out) ⌝ }
     ensures { λ r. ⌜ TextWritten d (now (shape .entry)) (now (out .entry)) (now (out .exit)) r ⌝ }
 {
-    let mut all = [Choice {
-        successor: Successor::End,
-        count: 0,
-    }; 32];
-    let mut next = Successor::End;
-    let n = shape.len() / shapes::SIZE;
-    let mut i = n;
+    let n = length_of(d, shape);
+    let mut below = extreme_steps::codes_below(Successor::End);
+    let mut at = n;
+    let mut i = shape.len() / shapes::SIZE;
     while 0 < i {
         i -= 1;
-        let k = extreme_steps::choose(d, shapes::block_at(shape, i), next);
-        all[i] = k;
-        next = k.successor;
+        let k = extreme_steps::choose(d, shape, i, below);
+        at -= k.count as usize;
+        put_run(k, out, at);
+        below = extreme_steps::codes_onward(k, below);
     }
-    let mut at = 0;
-    let mut j = 0;
-    while j < n {
-        at = put_run(all[j], out, at);
-        j += 1;
-    }
-    at
+    n
 }
 
 // The least or the greatest text of a shape.
