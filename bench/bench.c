@@ -10,6 +10,7 @@
 extreme wedgeotter_least, wedgeotter_greatest;
 uint64_t wedgeotter_sweep(const uint64_t *x, size_t n, const uint64_t *y, size_t m, uint64_t *out, size_t k);
 fitting wedgeotter_fits;
+finding wedgeotter_find;
 narrowing wedgeotter_exact, wedgeotter_padded, wedgeotter_at_most, wedgeotter_before;
 joining wedgeotter_join;
 showing wedgeotter_common;
@@ -20,6 +21,7 @@ filing wedgeotter_file;
 #define SIDES 3
 static fitting *const fits_of[SIDES] = {wedgeotter_fits, plain_fits, rows_fits};
 static extreme *const extreme_of[2][2] = {{wedgeotter_least, plain_least}, {wedgeotter_greatest, plain_greatest}};
+static finding *const find_of[SIDES] = {wedgeotter_find, spread_find, rows_find};
 static joining *const join_of[SIDES] = {wedgeotter_join, plain_join, rows_join};
 static showing *const common_of[SIDES] = {wedgeotter_common, plain_common, rows_common};
 static running *const book_of[SIDES] = {wedgeotter_book, plain_book, rows_book};
@@ -142,6 +144,36 @@ static void sweeps(const char *size, size_t blocks, uint64_t most) {
         TIME(best[1], 0, SHAPES, plain_sweep(shape[i], length[i], shape[NEXT], length[NEXT], b, 64));
     }
     show("sweep", size, 2, best), puts("");
+}
+
+// A mark of so many bytes sought in the shapes: letters of the bases at random, or one of them throughout. First the answers on marks of every length, also with bytes
+// that no base has and over 64.
+static void finds(const char *size, size_t blocks, uint64_t most, size_t m) {
+    uint8_t mark[66];
+    for (int i = 0; i < SHAPES; i++) {
+        length[i] = make(shape[i], blocks, most);
+        for (size_t k = 0; k <= 66; k++) {
+            uint64_t letters = rnd(4) + 1;
+            for (size_t j = 0; j < k; j++) mark[j] = rnd(200) ? 97 + rnd(letters) : 200;
+            uint64_t ours = wedgeotter_find(shape[i], length[i], mark, k);
+            for (int side = 1; side < SIDES; side++) same(ours == find_of[side](shape[i], length[i], mark, k), "find");
+        }
+    }
+    for (int letters = 4; letters > 0; letters -= 3) {
+        char what[80];
+        int some = 0, all = 0;
+        double best[SIDES] = {0};
+        for (size_t j = 0; j < m; j++) mark[j] = 97 + rnd(letters);
+        for (int i = 0; i < SHAPES; i++) {
+            uint64_t ours = wedgeotter_find(shape[i], length[i], mark, m);
+            some += ours >= 1000000, all += ours > 0 && ours < 1000000;
+        }
+        TURNS(0.5)
+            for (int side = 0; side < SIDES; side++) TIME(best[side], 0, SHAPES, find_of[side](shape[i], length[i], mark, m));
+        snprintf(what, sizeof what, "find %d%s", (int)m, letters == 1 ? ", one letter" : "");
+        show(what, size, SIDES, best);
+        printf("           in some texts of %d, in all of %d of %d\n", some, all, SHAPES);
+    }
 }
 
 static uint64_t other[SHAPES][128];
@@ -494,10 +526,12 @@ static void books(const char *size, int joins, size_t blocks, uint64_t most) {
 int main(void) {
     puts("Times per call, the least of several turns, in the mean over the inputs: ours is the proved call, bytes plain C with byte tables, rows plain C with rows of bits.");
     puts("After each plain C the ratio of ours to it; for narrowing, joins and common texts then that to our equality to the letter on the same pairs. Least and greatest text");
-    puts("and the sweep have one plain C. Equality but for padding makes a second pass on pairs that are none to the letter; the ratio without these follows, and the greatest of a pair.");
+    puts("and the sweep have one plain C; a mark is found by rows that are spread to others, and by rows in place as ours. Equality but for padding makes a second pass on pairs that are none to the letter; the ratio without these follows, and the greatest of a pair.");
     printf("%-52s %12s %12s %6s %12s %6s %8s\n", "", "ours", "bytes", "ratio", "rows", "ratio", "to equal");
     bounds("8 blocks, 40 characters", 8, 40);
     bounds("32 blocks, 250 characters", 32, 250);
+    for (size_t k = 0; k < 4; k++) finds("8 blocks, 40 characters", 8, 40, (size_t[]){1, 2, 8, 64}[k]);
+    for (size_t k = 0; k < 4; k++) finds("32 blocks, 250 characters", 32, 250, (size_t[]){1, 2, 8, 64}[k]);
     sweeps("8 blocks", 8, 40);
     sweeps("32 blocks", 32, 250);
     narrows("8 blocks, 40 characters", 8, 40, NEXT_ONE);

@@ -4,6 +4,7 @@
 #include <stdint.h>
 
 typedef uint64_t fitting(const uint64_t *s, size_t n, const uint8_t *t, size_t k);
+typedef uint64_t finding(const uint64_t *s, size_t n, const uint8_t *mark, size_t m);
 typedef uint64_t extreme(const uint64_t *s, size_t n, uint8_t *out, size_t k);
 typedef uint64_t narrowing(const uint64_t *x, size_t nx, const uint64_t *y, size_t ny, uint8_t *t, size_t w, uint64_t *ox, size_t a, uint64_t *oy, size_t b);
 typedef uint64_t joining(const uint64_t *x, size_t nx, const uint64_t *y, size_t ny, const uint64_t *z, size_t nz, uint8_t *t, size_t w, uint64_t *ox, size_t a, uint64_t *oy, size_t b, uint64_t *oz, size_t c);
@@ -18,6 +19,7 @@ typedef uint64_t filing(const uint8_t *file, size_t n, uint8_t *report, size_t k
 extreme plain_least, plain_greatest; // the text's length, 1000 for a refusal
 uint64_t plain_sweep(const uint64_t *x, size_t nx, const uint64_t *y, size_t ny, uint64_t *out, size_t k);
 fitting plain_fits, rows_fits;
+finding spread_find, rows_find; // greatest index, 1000 times the least, 1000000 where some text lacks the mark; 0 for nowhere, 1000 for a refusal
 narrowing plain_exact, plain_padded, plain_at_most, plain_before, rows_exact, rows_padded, rows_at_most, rows_before;
 joining plain_join, rows_join;
 showing plain_common, rows_common; // the text's length, 1000 for a refusal, 2000 for none

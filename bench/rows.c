@@ -84,6 +84,121 @@ uint64_t rows_fits(const uint64_t *s, size_t n, const uint8_t *t, size_t k) {
     return after.a & 1;
 }
 
+// ---- a mark sought in a shape: for each number of its characters that is matched, its state, the row of the lengths of texts that lack it so far
+
+static inline int has(const uint64_t *base, uint8_t c) { return c < 128 && (base[c / 64] >> (c % 64) & 1); }
+
+// Which of the mark's starts each of them ends with, and the characters that lead from each to a state above 0.
+static void mark_borders(const uint8_t *mark, size_t m, uint64_t *same, uint64_t *borders, uint64_t (*seen)[2]) {
+    for (size_t r = 0; r < m; r++) {
+        same[r] = 0;
+        for (size_t j = 0; j < m; j++) same[r] |= (uint64_t)(mark[j] == mark[r]) << j;
+    }
+    borders[0] = 1;
+    for (size_t q = 1; q < m; q++) borders[q] = (borders[q - 1] & same[q - 1]) << 1 | 1;
+    for (size_t q = 0; q < m; q++) {
+        uint64_t shorter = borders[q] & ~(1ull << q);
+        seen[q][0] = seen[q][1] = 0;
+        if (shorter) memcpy(seen[q], seen[63 - __builtin_clzll(shorter)], sizeof seen[q]);
+        if (mark[q] < 128) seen[q][mark[q] / 64] |= 1ull << (mark[q] % 64);
+    }
+}
+
+static inline int leaves(const uint64_t *base, const uint64_t *seen) { return (base[0] & ~seen[0]) || (base[1] & ~seen[1]); }
+
+static uint64_t found(struct row hits, int lacks, size_t m) {
+    if (!any(hits)) return 0;
+    return lacks * 1000000ull + (first(hits) - m + 1) * 1000 + (last(hits) - m + 1);
+}
+
+// From each state to those that a character leads to, into other rows; where a run may end they are gathered in a third set of rows.
+uint64_t spread_find(const uint64_t *s, size_t n, const uint8_t *mark, size_t m) {
+    if (!plain_check(s, n) || m > 64) return 1000;
+    if (m == 0) return 1001;
+    uint64_t same[64], borders[64], seen[64][2], on[64];
+    mark_borders(mark, m, same, borders, seen);
+    for (size_t q = 0; q < m; q++) { // of the borders with one next character the greatest
+        on[q] = 0;
+        for (uint64_t left = borders[q], gone = 0; left; left &= ~(1ull << (63 - __builtin_clzll(left)))) {
+            int r = 63 - __builtin_clzll(left);
+            if (!(gone >> r & 1)) on[q] |= 1ull << r;
+            gone |= same[r];
+        }
+    }
+    struct row rows[64], next[64], stops[64], hits = none;
+    memset(rows, 0, m * sizeof *rows);
+    rows[0].a = 1;
+    for (size_t i = 0; i < n; i += 4) {
+        uint64_t to[64], allowed = 0;
+        int back[64];
+        for (size_t r = 0; r < m; r++) allowed |= (uint64_t)has(s + i, mark[r]) << r;
+        for (size_t q = 0; q < m; q++) to[q] = on[q] & allowed, back[q] = leaves(s + i, seen[q]);
+        memset(stops, 0, m * sizeof *stops);
+        for (uint64_t o = 0; o < s[i + 3]; o++) {
+            if (o >= s[i + 2])
+                for (size_t q = 0; q < m; q++) stops[q] = either(stops[q], rows[q]);
+            memset(next, 0, m * sizeof *next);
+            for (size_t q = 0; q < m; q++) {
+                if (!any(rows[q])) continue;
+                struct row one = up(rows[q]);
+                for (uint64_t left = to[q]; left; left &= left - 1) {
+                    size_t r = __builtin_ctzll(left) + 1;
+                    if (r == m) hits = either(hits, one);
+                    else next[r] = either(next[r], one);
+                }
+                if (back[q]) next[0] = either(next[0], one);
+            }
+            memcpy(rows, next, m * sizeof *rows);
+        }
+        for (size_t q = 0; q < m; q++) rows[q] = either(rows[q], stops[q]);
+    }
+    int lacks = 0;
+    for (size_t q = 0; q < m; q++) lacks |= any(rows[q]);
+    return found(hits, lacks, m);
+}
+
+static inline struct row gather(const struct row *rows, uint64_t w) {
+    struct row r = none;
+    for (; w; w &= w - 1) r = either(r, rows[__builtin_ctzll(w)]);
+    return r;
+}
+
+// As the proved call: in place, each state from itself and the states above, those that have no length left out; where a run may end the rows stay as well.
+uint64_t rows_find(const uint64_t *s, size_t n, const uint8_t *mark, size_t m) {
+    if (!plain_check(s, n) || m > 64) return 1000;
+    if (m == 0) return 1001;
+    uint64_t falls[64], borders[64], seen[64][2], live = 1;
+    mark_borders(mark, m, falls, borders, seen);
+    for (size_t r = 0; r < m; r++) {
+        uint64_t same = falls[r];
+        falls[r] = 0;
+        for (size_t q = r + 1; q < m; q++) falls[r] |= (uint64_t)((borders[q] & same) >> r == 1) << q;
+    }
+    struct row rows[64], hits = none;
+    memset(rows, 0, m * sizeof *rows);
+    rows[0].a = 1;
+    for (size_t i = 0; i < n; i += 4) {
+        uint64_t allowed = 0, back = 0;
+        for (size_t q = 0; q < m; q++) allowed |= (uint64_t)has(s + i, mark[q]) << q, back |= (uint64_t)leaves(s + i, seen[q]) << q;
+        for (uint64_t o = 0; o < s[i + 3] && live; o++) {
+            if (allowed >> (m - 1) & 1) hits = either(hits, up(rows[m - 1]));
+            size_t end = 65 - __builtin_clzll(live);
+            struct row last = none;
+            uint64_t next = 0;
+            for (size_t t = 0; t < (end < m ? end : m); t++) {
+                struct row here = rows[t], come = none;
+                if (t == 0) come = up(gather(rows, back & live));
+                else if (allowed >> (t - 1) & 1) come = up(either(last, gather(rows, falls[t - 1] & live)));
+                rows[t] = o >= s[i + 2] ? either(come, here) : come;
+                next |= (uint64_t)any(rows[t]) << t;
+                last = here;
+            }
+            live = next;
+        }
+    }
+    return found(hits, live != 0, m);
+}
+
 // Each number d down, where d is 64, 128 or less than 64.
 static inline __attribute__((always_inline)) struct row lower(struct row r, int d) {
     if (d == 64) return (struct row){r.b, r.c, r.d, 0};

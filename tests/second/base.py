@@ -328,7 +328,8 @@ def all_cases():
     return cases.lines
 
 
-TEXT_FIELDS = {"F": 1, "O": 2}
+# M is a case of find.py.
+TEXT_FIELDS = {"F": 1, "O": 2, "M": 1}
 OUTPUT_LETTERS = "LG"
 
 

@@ -10,11 +10,12 @@ that are looked at by the definition alone (witnesses.py).
     second.py expected NAME            reads a test input of that program and prints the expected output
     second.py report                   reads a book's file and prints the report that is due
     second.py example                  prints document 01's book, its rule of four numbers
+    second.py column                   prints where the unit starts in the torque line, as `unit_column` does
     second.py witnesses CASES LINES    holds the expected lines of large cases of narrowing to fillings
 
-NAME is base, sweep, narrow, common, book, file, host or reader. A case is a line, its fields parted by single
-blanks. A number is lowercase hex without needless zeros. A list is its count and then its numbers; a shape is
-lent as any count of 64-bit numbers, also none. Expected counts, and what a refusal tells, are decimal.
+NAME is base, sweep, narrow, common, book, file, find, host or reader. A case is a line, its fields parted by
+single blanks. A number is lowercase hex without needless zeros. A list is its count and then its numbers; a shape
+is lent as any count of 64-bit numbers, also none. Expected counts, and what a refusal tells, are decimal.
 
 base. A text is its bytes as hex pairs, `-` if it is empty. The words w are the rest of the line.
 
@@ -58,6 +59,12 @@ shown with `/` for each newline; e counts the untouched bytes at its end, all of
 
     F k file         report length text rest e | refused number text place rest e
 
+find. Where a mark starts first in the fitting texts. A mark is its bytes as hex pairs, `-` if it is empty; the words w
+are the rest of the line. Shown are the least and the greatest index, counted from 1: after `some` where some fitting
+text lacks the mark, after `all` where none does; `nowhere` where no fitting text has it.
+
+    M mark w w ..    nowhere | some least greatest | all least greatest | refused number text place
+
 host. The call of the bench host, which tests/host/check.c makes; nothing is stored of it. A report buffer of r bytes, a
 work buffer of k bytes, and the book's bytes as hex pairs, `-` if there are none. Shown are the number given back, the
 bytes written as hex pairs, whether the rest of the report is as found, and the work: zeroed where its first 63,001
@@ -79,6 +86,7 @@ import base
 import book
 import common
 import file
+import find
 import host
 import narrow
 import reader
@@ -86,8 +94,8 @@ import sweep
 import witnesses
 
 NAMES = {
-    "base": base, "sweep": sweep, "narrow": narrow, "common": common, "book": book, "file": file, "host": host,
-    "reader": reader,
+    "base": base, "sweep": sweep, "narrow": narrow, "common": common, "book": book, "file": file, "find": find,
+    "host": host, "reader": reader,
 }
 
 # More than a stored file should have.
@@ -99,12 +107,15 @@ def main(arguments):
         file.hold_to_example()
         sys.stdout.buffer.write(file.EXAMPLE if arguments == ["example"] else file.report(sys.stdin.buffer.read()))
         return
+    if arguments == ["column"]:
+        print(find.unit_column())
+        return
     if len(arguments) == 3 and arguments[0] == "witnesses":
         cases, searched, met = witnesses.hold(*(Path(name).read_text().splitlines() for name in arguments[1:]))
         print(f"{cases} large cases held to {searched} fillings searched for and {met} met by chance")
         return
     if len(arguments) != 2 or arguments[0] not in ("cases", "expected") or arguments[1] not in NAMES:
-        usage = "second.py cases NAME | expected NAME | report | example | witnesses CASES LINES"
+        usage = "second.py cases NAME | expected NAME | report | example | column | witnesses CASES LINES"
         sys.exit(f"{usage}, NAME one of {', '.join(NAMES)}")
     part = NAMES[arguments[1]]
     if arguments[0] == "cases":

@@ -16,6 +16,7 @@ pub enum Refusal {
     Join(u64),
     Line(u64),
     Size,
+    Mark,
 }
 
 // Whether a shape is one.
@@ -65,6 +66,19 @@ pub enum Ran {
     Refused(Refusal),
 }
 
+// A character index in a text, from 1: neither a length, nor an offset, nor a block's number.
+pub struct Index {
+    pub at: u64,
+}
+
+// Where a mark first starts in the texts of a shape: in none of them, or in some, or in all, each with the least and the greatest index.
+pub enum Sought {
+    Nowhere,
+    InSome(Index, Index),
+    InAll(Index, Index),
+    Refused(Refusal),
+}
+
 pub fn number(r: Refusal) -> u64
     ensures { λ n. ⌜ n ≡ told r .number ⌝ }
 {
@@ -81,6 +95,7 @@ pub fn number(r: Refusal) -> u64
         Refusal::Join(_) => 12,
         Refusal::Line(_) => 8,
         Refusal::Size => 9,
+        Refusal::Mark => 13,
     }
 }
 
@@ -100,6 +115,7 @@ pub fn text(r: Refusal) -> u64
         Refusal::Join(_) => 0,
         Refusal::Line(_) => 0,
         Refusal::Size => 0,
+        Refusal::Mark => 0,
     }
 }
 
@@ -119,5 +135,6 @@ pub fn place(r: Refusal) -> u64
         Refusal::Join(rule) => rule,
         Refusal::Line(line) => line,
         Refusal::Size => 0,
+        Refusal::Mark => 0,
     }
 }

@@ -4,6 +4,7 @@ use answers::Fit;
 use answers::Narrowed;
 use answers::Ran;
 use answers::Shown;
+use answers::Sought;
 use answers::Swept;
 use answers::Written;
 
@@ -32,6 +33,17 @@ pub extern "C" fn wedgeotter_least(shape: &[u64], out: &mut [u8]) -> u64 {
 #[no_mangle]
 pub extern "C" fn wedgeotter_greatest(shape: &[u64], out: &mut [u8]) -> u64 {
     written(dashed::greatest_text(shape, out))
+}
+
+// Both indices in one number, with 1000000 more where some text lacks the mark; 0 for nowhere, and 1000, as here no indices are, for a refusal.
+#[no_mangle]
+pub extern "C" fn wedgeotter_find(shape: &[u64], mark: &[u8]) -> u64 {
+    match dashed::find(shape, mark) {
+        Sought::Nowhere => 0,
+        Sought::InSome(least, greatest) => 1000000 + least.at % 1000 * 1000 + greatest.at % 1000,
+        Sought::InAll(least, greatest) => least.at % 1000 * 1000 + greatest.at % 1000,
+        Sought::Refused(_) => 1000,
+    }
 }
 
 // The looks made, and 100000 for cannot.

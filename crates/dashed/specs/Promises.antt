@@ -8,6 +8,7 @@ use Rattle.answers.specs.declared.Fit.{Fit}
 use Rattle.answers.specs.declared.Narrowed.{Narrowed}
 use Rattle.answers.specs.declared.Ran.{Ran}
 use Rattle.answers.specs.declared.Shown.{Shown}
+use Rattle.answers.specs.declared.Sought.{Sought}
 use Rattle.answers.specs.declared.Swept.{Swept}
 use Rattle.answers.specs.declared.Written.{Written}
 use Rattle.book_runs.specs.Rounds.{RunPromise}
@@ -15,6 +16,7 @@ use Rattle.common_calls.specs.Common.{ShowPromise}
 use Rattle.extreme_steps.specs.declared.Direction.the-variants.{Least, Greatest}
 use Rattle.extremes.specs.Extreme.{ExtremePromise}
 use Rattle.file_runs.specs.Promise.{FilePromise}
+use Rattle.find_calls.specs.Find.{FindPromise}
 use Rattle.fitting.specs.Fit.{FitPromise}
 use Rattle.host_calls.specs.Host.{HostPromise}
 use Rattle.sweep_calls.specs.Sweep.{SweepPromise}
@@ -70,6 +72,10 @@ NarrowJoin xs ys zs work ox oy oz work′ ox′ oy′ oz′ r = JoinPromise xs y
 -- the earliest common text of xs and ys (document 02, order 2): lent work and one output; with ′ they are as handed back
 abbrev pub CommonText : List ℕ → List ℕ → List ℕ → List ℕ → List ℕ → List ℕ → Shown → Type 0
 CommonText xs ys work out work′ out′ r = ShowPromise xs ys work out work′ out′ r
+
+-- where a mark first starts in the texts of xs (document 02, order 7): the least and the greatest character index, and whether some text lacks it
+abbrev pub FindMark : List ℕ → List ℕ → Sought → Type 0
+FindMark xs mark r = FindPromise xs mark r
 
 -- running a book: lent the texts' block counts, all blocks, the rules and work; with ′ blocks and work as handed back
 abbrev pub RunBook : List ℕ → List ℕ → List ℕ → List ℕ → List ℕ → List ℕ → Ran → Type 0

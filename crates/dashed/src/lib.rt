@@ -5,9 +5,10 @@ use answers::Fit;
 use answers::Narrowed;
 use answers::Ran;
 use answers::Shown;
+use answers::Sought;
 use answers::Swept;
 use answers::Written;
-ghost use Rattle.dashed.specs.Promises.{CheckShape, FitsShape, Earlier, LeastText, GreatestText, Sweep, NarrowPadded, NarrowExact, NarrowAtMost, NarrowBefore, NarrowJoin, CommonText, RunBook, RunFile, RunHost};
+ghost use Rattle.dashed.specs.Promises.{CheckShape, FitsShape, Earlier, LeastText, GreatestText, Sweep, NarrowPadded, NarrowExact, NarrowAtMost, NarrowBefore, NarrowJoin, CommonText, FindMark, RunBook, RunFile, RunHost};
 
 // Checks a shape, lent as 64-bit numbers, four to a block.
 pub fn check_shape(shape: &[u64]) -> Checked
@@ -138,6 +139,14 @@ pub fn common_text(x: &[u64], y: &[u64], work: &mut [u8], out: &mut [u8]) -> Sho
     ensures { λ r. ⌜ CommonText (now (x .entry)) (now (y .entry)) (now (work .entry)) (now (out .entry)) (now (work .exit)) (now (out .exit)) r ⌝ }
 {
     common_calls::common_text(x, y, work, out)
+}
+
+// Where a mark of at most 64 bytes first starts in the texts that fit the shape: the least and the greatest character index, from 1, over the texts that have it, and
+// whether every text has it, some lack it, or none has it. The empty mark occurs at 1 in every text. It takes no work and no output buffer.
+pub fn find(shape: &[u64], mark: &[u8]) -> Sought
+    ensures { λ r. ⌜ FindMark (now (shape .entry)) (now (mark .entry)) r ⌝ }
+{
+    find_calls::find(shape, mark)
 }
 
 // Runs a book of rules: the texts' block counts, all their blocks end to end, the rules as fours (kind, a, b, c), c being 0 except in a join. The final shapes are left in the blocks; on none

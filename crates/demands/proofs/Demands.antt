@@ -22,9 +22,10 @@ use Rattle.book_steps.proofs.Standing.{standing-first}
 use Rattle.file_runs.proofs.Determined.{run-file-determined}
 use Rattle.host_calls.proofs.Determined.{host-determined}
 use Rattle.host_calls.proofs.Numbers.{host-refused}
+use Rattle.find_calls.proofs.Determined.{find-determined}
 use Rattle.dashed.proofs.Determined.{check-shape-determined, fits-determined, earlier-determined, extreme-determined}
 use Rattle.demands.specs.Demands.{Demand1, Demand2, Demand3, Exact, KeepsExactly, ExactJoin, KeepsTriples}
-use Rattle.demands.proofs.Refusals.{check-shape-refuses, fits-refuses, text-refuses, sweep-refuses, common-text-refuses, narrowing-refuses, join-refuses, run-book-refuses, run-file-refuses, run-host-refuses}
+use Rattle.demands.proofs.Refusals.{check-shape-refuses, fits-refuses, find-refuses, text-refuses, sweep-refuses, common-text-refuses, narrowing-refuses, join-refuses, run-book-refuses, run-file-refuses, run-host-refuses}
 use Rattle.demands.proofs.Exact.{none-texts, some-texts, keeps-exactly, narrowed-shapes}
 use Rattle.demands.proofs.Joined.{none-triples, some-triple, keeps-triples, joined-shapes}
 use Rattle.demands.proofs.Sequences.{all-right, alone-stable, stable-alone, calls-agree, permuted-agree, calls-widest, calls-none, calls-accepted, runner-stable, runner-none}
@@ -39,6 +40,7 @@ demand-1 = record {
   sweep = sweep-refuses;
   join = join-refuses;
   common-text = common-text-refuses;
+  find = find-refuses;
   run-book = run-book-refuses;
   run-file = run-file-refuses;
   run-host = run-host-refuses;
@@ -62,6 +64,7 @@ demand-1 = record {
   sweep-one = λ xs ys out out′ out″ r s p q. sweep-determined xs ys out out′ out″ r s p q;
   join-one = λ xs ys zs work ox oy oz work′ ox′ oy′ oz′ work″ ox″ oy″ oz″ r s p q. join-determined xs ys zs work ox oy oz r s p q;
   common-text-one = common-one;
+  find-one = find-determined;
   run-book-one = run-determined;
   run-file-one = run-file-determined;
   run-host-one = host-determined;

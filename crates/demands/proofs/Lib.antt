@@ -13,3 +13,4 @@ pub mod Request4
 pub mod Cannot
 pub mod Request5
 pub mod Request6
+pub mod Request7

@@ -12,6 +12,7 @@ use Rattle.answers.specs.declared.Fit.{Fit}
 use Rattle.answers.specs.declared.Narrowed.{Narrowed}
 use Rattle.answers.specs.declared.Ran.{Ran}
 use Rattle.answers.specs.declared.Shown.{Shown}
+use Rattle.answers.specs.declared.Sought.{Sought}
 use Rattle.answers.specs.declared.Swept.{Swept}
 use Rattle.answers.specs.declared.Written.{Written}
 use Rattle.shapes.specs.Lent.{shapeOf, Accepted, ShapeRefused}
@@ -28,13 +29,15 @@ use Rattle.common_calls.specs.Common.{ShowRoom, ShowRefused}
 use Rattle.common_calls.proofs.Common.{show-refused-one, show-refused-not}
 use Rattle.sweep_calls.specs.Sweep.{SweepRefused}
 use Rattle.sweep_calls.proofs.Sweeping.{one-refusal, not-due}
+use Rattle.find_calls.specs.Find.{FindRefused}
+use Rattle.find_calls.proofs.Determined.{find-refused-one, find-refused-not}
 use Rattle.books.specs.Refused.{BookAccepted, BookRefused}
 use Rattle.books.proofs.Refused.{book-one, book-not}
 use Rattle.file_runs.specs.Promise.{RunRefused, FileAnswer}
 use Rattle.file_runs.proofs.Determined.{run-refused-one, run-file-not}
 use Rattle.host_calls.specs.Host.{negated, handed}
 use Rattle.host_calls.proofs.Numbers.{host-refused}
-use Rattle.dashed.specs.Promises.{CheckShape, FitsShape, Sweep, NarrowJoin, CommonText, RunBook, RunFile, RunHost}
+use Rattle.dashed.specs.Promises.{CheckShape, FitsShape, Sweep, NarrowJoin, CommonText, FindMark, RunBook, RunFile, RunHost}
 use Rattle.demands.specs.Demands.{Refuses, TextRefused, FileAcceptable, NarrowingRefuses}
 
 pub check-shape-refuses : (xs : List ℕ) → Refuses Checked.Refused (CheckShape xs) (Accepted xs) (ShapeRefused 1 xs)
@@ -51,6 +54,21 @@ fits-refuses xs t = record { acceptable = λ a q p. shape-not p a; malformed = m
     malformed n Fit.Fits p = absurd (n (p .0))
     malformed n Fit.Unfit p = absurd (n (p .0))
     malformed n (Fit.Refused q) p = (q, refl, p)
+
+-- ---- a mark sought in a shape
+
+pub find-refuses : (xs mark : List ℕ) → Refuses Sought.Refused (FindMark xs mark) (Accepted xs × (length mark ≤ 64)) (FindRefused xs mark)
+find-refuses xs mark = record {
+  acceptable = λ a q p. find-refused-not xs mark p (record { accepted = a .0; few = a .1 });
+  malformed = malformed;
+  one = λ t u p q. find-refused-one xs mark p q;
+}
+  where
+    malformed : (Accepted xs × (length mark ≤ 64) → ⊥) → (r : Sought) → FindMark xs mark r → (q : Refusal) × (r ≡ Sought.Refused q) × FindRefused xs mark (told q)
+    malformed n Sought.Nowhere p = absurd (n (p .0 .accepted, p .0 .few))
+    malformed n (Sought.InSome i j) p = absurd (n (p .0 .accepted, p .0 .few))
+    malformed n (Sought.InAll i j) p = absurd (n (p .0 .accepted, p .0 .few))
+    malformed n (Sought.Refused q) p = (q, refl, p)
 
 -- ---- least and greatest text
 

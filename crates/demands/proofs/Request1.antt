@@ -27,6 +27,8 @@ use Rattle.joins.proofs.Refused.{join-refused-not}
 use Rattle.common_calls.specs.Common.{ShowRefused}
 use Rattle.common_calls.specs.Common.ShowRefused.{shapes as show-shapes, short-work as show-work, short-output as show-output}
 use Rattle.common_calls.proofs.Common.{show-refused-not}
+use Rattle.find_calls.specs.Find.{FindRefused}
+use Rattle.find_calls.proofs.Determined.{find-refused-not}
 use Rattle.sweep_calls.specs.Sweep.{SweepRefused}
 use Rattle.sweep_calls.specs.Sweep.SweepRefused.{shapes as sweep-shapes, output as sweep-output}
 use Rattle.sweep_calls.proofs.Sweeping.{not-due}
@@ -51,7 +53,7 @@ use Rattle.host_calls.proofs.Numbers.{host-refused}
 use Rattle.dashed.specs.Promises.{RunHost}
 use Rattle.demands.specs.Demands.{Refuses, TextRefused}
 use Rattle.demands.specs.Requests.{Tells, Tried, TellsWhich, TellsOnly, SaysWhich, OfPair, OfNarrowing, TextLookedAt, SomeBlock, Request1}
-use Rattle.demands.proofs.Refusals.{check-shape-refuses, fits-refuses, text-not, text-refuses, sweep-refuses, common-text-refuses, narrowing-refuses, join-refuses, run-book-refuses, run-file-refuses, run-host-refuses}
+use Rattle.demands.proofs.Refusals.{check-shape-refuses, fits-refuses, find-refuses, text-not, text-refuses, sweep-refuses, common-text-refuses, narrowing-refuses, join-refuses, run-book-refuses, run-file-refuses, run-host-refuses}
 
 -- ---- the numbers of a block's refusals
 
@@ -171,6 +173,11 @@ no-4 e = other e (λ (z : _≡_ {A = ℕ} 4 2). omega arith) (λ (z : _≡_ {A =
 
 no-5 : {t : Told} {a b : ℕ} → t ≡ tell 5 a b → OfBlock (t .number) → ⊥
 no-5 e = other e (λ (z : _≡_ {A = ℕ} 5 2). omega arith) (λ (z : _≡_ {A = ℕ} 5 10). omega arith) (λ (z : _≡_ {A = ℕ} 5 11). omega arith)
+
+find-back : (xs mark : List ℕ) (t : Told) → FindRefused xs mark t → t .text ≡ 1 → OfBlock (t .number) → RightLength xs × ((k : ℕ) × FirstBlock 1 (shapeOf xs) k t)
+find-back xs mark t (here p) e o = shape-back p o
+find-back xs mark t (later a p) e o =
+    absurd (other (p .tells) (λ (z : _≡_ {A = ℕ} 13 2). omega arith) (λ (z : _≡_ {A = ℕ} 13 10). omega arith) (λ (z : _≡_ {A = ℕ} 13 11). omega arith) o)
 
 text-back : (xs out : List ℕ) (t : Told) → TextRefused xs out t → t .text ≡ 1 → OfBlock (t .number) → RightLength xs × ((k : ℕ) × FirstBlock 1 (shapeOf xs) k t)
 text-back xs out t (inl p) e o = shape-back p o
@@ -324,6 +331,7 @@ pub request-1 : Request1
 request-1 = record {
   check-shape = λ xs. says (check-shape-refuses xs) (λ t d a. shape-not d a) (λ q p. p) shape-to (λ t d e o. shape-back d o);
   fits = λ xs u. says (fits-refuses xs u) (λ t d a. shape-not d a) (λ q p. p) shape-to (λ t d e o. shape-back d o);
+  find = λ xs mark. says (find-refuses xs mark) (λ t d a. find-refused-not xs mark d (record { accepted = a .0; few = a .1 })) (λ q p. p) (λ t l k f. here (shape-to t l k f)) (find-back xs mark);
   least = λ xs out out′. says (text-refuses _ xs out out′) (λ t d a. text-not xs out t a d) (λ q p. p .0) (λ t l k f. inl (shape-to t l k f)) (text-back xs out);
   greatest = λ xs out out′. says (text-refuses _ xs out out′) (λ t d a. text-not xs out t a d) (λ q p. p .0) (λ t l k f. inl (shape-to t l k f)) (text-back xs out);
   sweep = λ xs ys out out′.

@@ -13,6 +13,7 @@ use Rattle.answers.specs.declared.Fit.{Fit}
 use Rattle.answers.specs.declared.Narrowed.{Narrowed}
 use Rattle.answers.specs.declared.Ran.{Ran}
 use Rattle.answers.specs.declared.Shown.{Shown}
+use Rattle.answers.specs.declared.Sought.{Sought}
 use Rattle.answers.specs.declared.Swept.{Swept}
 use Rattle.answers.specs.declared.Written.{Written}
 use Rattle.shapes.specs.Shape.{Block, Filling, textOf, Fits, noBlock}
@@ -25,6 +26,7 @@ use Rattle.pairs.specs.Pair.{PairAccepted, Room, NarrowRefused}
 use Rattle.joins.specs.Refused.{JoinAccepted, JoinRoom, JoinRefused}
 use Rattle.common_calls.specs.Common.{ShowRoom, ShowRefused}
 use Rattle.sweep_calls.specs.Sweep.{SweepRefused}
+use Rattle.find_calls.specs.Find.{FindRefused}
 use Rattle.sweep_steps.specs.Steps.{sweepOf}
 use Rattle.sweep_passes.specs.Read.{sweptOf, outputOf}
 use Rattle.rules.specs.Rule.{ruleCount, numbersOfAll}
@@ -35,7 +37,7 @@ use Rattle.file_lines.specs.Book.{Book}
 use Rattle.files.specs.Departs.{FileAccepted}
 use Rattle.file_runs.specs.Promise.{RunRefused}
 use Rattle.host_calls.specs.Host.{negated}
-use Rattle.dashed.specs.Promises.{CheckShape, FitsShape, Earlier, LeastText, GreatestText, Sweep, NarrowPadded, NarrowExact, NarrowAtMost, NarrowBefore, NarrowJoin, CommonText, RunBook, RunFile, RunHost}
+use Rattle.dashed.specs.Promises.{CheckShape, FitsShape, Earlier, LeastText, GreatestText, Sweep, NarrowPadded, NarrowExact, NarrowAtMost, NarrowBefore, NarrowJoin, CommonText, FindMark, RunBook, RunFile, RunHost}
 use Rattle.demands.specs.Calls.{LeftAlone, none, numbers, Ending, Calls, InOrder, WidestLeft, Choice}
 
 -- ---- demand 1
@@ -81,6 +83,7 @@ pub record Demand1 : Type 1 where
       (JoinAccepted xs ys zs × JoinRoom xs ys zs (length work) (length ox) (length oy) (length oz)) (JoinRefused xs ys zs (length work) (length ox) (length oy) (length oz))
   pub common-text : (xs ys work out work′ out′ : List ℕ) → Refuses Shown.Refused (CommonText xs ys work out work′ out′)
       (PairAccepted xs ys × ShowRoom (length work) (length out)) (ShowRefused xs ys (length work) (length out))
+  pub find : (xs mark : List ℕ) → Refuses Sought.Refused (FindMark xs mark) (Accepted xs × (length mark ≤ 64)) (FindRefused xs mark)
   pub run-book : (counts blocks rules work blocks′ work′ : List ℕ) → Refuses Ran.Refused (RunBook counts blocks rules work blocks′ work′)
       (BookAccepted counts blocks rules (length work)) (BookRefused counts blocks rules (length work))
   pub run-file : (file report report′ : List ℕ) → Refuses Written.Refused (RunFile file report report′) (FileAcceptable file 63001 (length report))
@@ -115,6 +118,7 @@ pub record Demand1 : Type 1 where
       → NarrowJoin xs ys zs work ox oy oz work″ ox″ oy″ oz″ s → (r ≡ s) × (work′ ≡ work″) × (ox′ ≡ ox″) × (oy′ ≡ oy″) × (oz′ ≡ oz″)
   pub common-text-one : (xs ys work out work′ out′ work″ out″ : List ℕ) (r s : Shown) → CommonText xs ys work out work′ out′ r
       → CommonText xs ys work out work″ out″ s → (r ≡ s) × (work′ ≡ work″) × (out′ ≡ out″)
+  pub find-one : (xs mark : List ℕ) (r s : Sought) → FindMark xs mark r → FindMark xs mark s → r ≡ s
   pub run-book-one : (counts blocks rules work b b′ w w′ : List ℕ) (r s : Ran) → RunBook counts blocks rules work b w r → RunBook counts blocks rules work b′ w′ s
       → (r ≡ s) × (b ≡ b′) × (w ≡ w′)
   pub run-file-one : (file report report′ report″ : List ℕ) (r s : Written) → RunFile file report report′ r → RunFile file report report″ s

@@ -1,5 +1,6 @@
 -- The requests of document 02, a field for each sentence, over the promises of the calls. That refusals are due at all, and that there is one, stands with demand 1.
 use mathlib.Core.Path.{_≡_}
+use mathlib.Core.Bool.{true, false}
 use mathlib.Core.List.{List, [], _∷_, _++_, map}
 use mathlib.Core.Logic.{_⊎_, _↔_}
 use Prim.Native.Nat.{ℕ, _+_, _*_, _%_, _^_, _≤_, _<_}
@@ -12,11 +13,14 @@ use Rattle.answers.specs.declared.Fit.{Fit}
 use Rattle.answers.specs.declared.Narrowed.{Narrowed}
 use Rattle.answers.specs.declared.Ran.{Ran}
 use Rattle.answers.specs.declared.Shown.{Shown}
+use Rattle.answers.specs.declared.Sought.{Sought}
 use Rattle.answers.specs.declared.Swept.{Swept}
 use Rattle.answers.specs.declared.Written.{Written}
+use Rattle.bases.specs.Base.{Holds}
+use Rattle.shapes.specs.All.{All}
 use Rattle.shapes.specs.Shape.{Block, Sound, Fits, total, noBlock}
 use Rattle.shapes.specs.Wrong.{Crossed, TooLarge, Disagree}
-use Rattle.shapes.specs.Lent.{shapeOf, wordsOf, RightLength, Accepted}
+use Rattle.shapes.specs.Lent.{Numbers, shapeOf, wordsOf, RightLength, Accepted, ShapeRefused}
 use Rattle.texts.specs.Order.{AtMost}
 use Rattle.texts.specs.Padding.{blank, trimmed, Padded, BlanksBehind}
 use Rattle.texts.specs.Kind.{relationOf, paddedKind, atMostKind, beforeKind, joinKind, exactKind}
@@ -33,13 +37,15 @@ use Rattle.books.specs.Counts.{RightCounts, shapeIn, SoundText}
 use Rattle.books.specs.Rules.{Names, RightRule, Keeps}
 use Rattle.books.specs.Refused.{SoundTexts, SoundRule, BookRefused, BookAccepted}
 use Rattle.common_calls.specs.Common.{ShowRoom}
+use Rattle.find_texts.specs.Occurs.{OccursAt, Lacks, FirstAt, SomeLacks, SomeFirst}
+use Rattle.find_calls.specs.Find.{Asked, lacking, leastIndex, greatestIndex}
 use Rattle.file_numerals.specs.Digits.{decimal}
 use Rattle.file_lines.specs.Book.{Book, joined}
 use Rattle.files.specs.Departs.{FileAccepted}
 use Rattle.file_runs.specs.Ends.{FileEnds}
 use Rattle.file_reports.specs.Report.{Verdict, reportOf}
 use Rattle.host_calls.specs.Host.{negated, handed}
-use Rattle.dashed.specs.Promises.{CheckShape, FitsShape, LeastText, GreatestText, Sweep, NarrowPadded, NarrowExact, NarrowAtMost, NarrowBefore, NarrowJoin, CommonText, RunBook, RunFile, RunHost}
+use Rattle.dashed.specs.Promises.{CheckShape, FitsShape, LeastText, GreatestText, Sweep, NarrowPadded, NarrowExact, NarrowAtMost, NarrowBefore, NarrowJoin, CommonText, FindMark, RunBook, RunFile, RunHost}
 use Rattle.demands.specs.Demands.{NarrowCall, TextRefused}
 
 -- A call tells t: every answer that its promise permits is a refusal that tells t.
@@ -103,6 +109,7 @@ pub record Request1 : Type 0 where
   pub fits : (xs t : List ℕ) → SaysWhich Fit.Refused (FitsShape xs t) 1 (shapeOf xs) (RightLength xs)
   pub least : (xs out out′ : List ℕ) → SaysWhich Written.Refused (LeastText xs out out′) 1 (shapeOf xs) (RightLength xs)
   pub greatest : (xs out out′ : List ℕ) → SaysWhich Written.Refused (GreatestText xs out out′) 1 (shapeOf xs) (RightLength xs)
+  pub find : (xs mark : List ℕ) → SaysWhich Sought.Refused (FindMark xs mark) 1 (shapeOf xs) (RightLength xs)
   pub sweep : (xs ys out out′ : List ℕ) → OfPair Swept.Refused (Sweep xs ys out out′) xs ys
   pub padded : OfNarrowing NarrowPadded
   pub exact : OfNarrowing NarrowExact
@@ -309,3 +316,40 @@ pub record AsBefore (d : Direction) (Call : List ℕ → List ℕ → List ℕ �
 pub record Request6 : Type 0 where
   pub least : AsBefore Least LeastText
   pub greatest : AsBefore Greatest GreatestText
+
+-- ---- order 7
+
+-- "Given a fixed mark of 0 to 64 bytes and a shape": xs are the shape's numbers.
+pub record Request7 : Type 0 where
+  -- "report whether some fitting text lacks it"
+  pub lacks : {xs mark : List ℕ} (r : Sought) → Asked xs mark → FindMark xs mark r → (lacking r ≡ true) ↔ SomeLacks mark (shapeOf xs)
+  -- "and the least and greatest character index at which its first occurrence starts over the fitting texts that have it": both are there in some fitting text, and none
+  -- lies outside them ("ours are exact")
+  pub least-there : {xs mark : List ℕ} (r : Sought) → Asked xs mark → FindMark xs mark r → 0 < leastIndex r → SomeFirst mark (shapeOf xs) (leastIndex r)
+  pub greatest-there : {xs mark : List ℕ} (r : Sought) → Asked xs mark → FindMark xs mark r → 0 < leastIndex r → SomeFirst mark (shapeOf xs) (greatestIndex r)
+  pub between : {xs mark : List ℕ} (r : Sought) → Asked xs mark → FindMark xs mark r → (t : List ℕ) → Fits (shapeOf xs) t → (i : ℕ) → FirstAt mark t i
+      → (leastIndex r ≤ i) × (i ≤ greatestIndex r)
+  -- "or that none has it": exactly then both are 0
+  pub none-has : {xs mark : List ℕ} (r : Sought) → Asked xs mark → FindMark xs mark r → (leastIndex r ≡ 0) ↔ ((t : List ℕ) → Fits (shapeOf xs) t → Lacks mark t)
+  pub none-both : {xs mark : List ℕ} (r : Sought) → Asked xs mark → FindMark xs mark r → leastIndex r ≡ 0 → greatestIndex r ≡ 0
+  -- a text lacks the mark or has it, and then one first occurrence
+  pub lacks-or-has : (mark t : List ℕ) → Lacks mark t ⊎ ((i : ℕ) × FirstAt mark t i)
+  pub lacks-not-has : {mark t : List ℕ} {i : ℕ} → Lacks mark t → OccursAt mark t i → ⊥
+  pub one-first : {mark t : List ℕ} {i j : ℕ} → FirstAt mark t i → FirstAt mark t j → i ≡ j
+  -- "Indices count from 1": what starts a text is at 1, what stands behind n characters at n + 1, and nothing at 0
+  pub from-one : (mark t : List ℕ) → OccursAt mark (mark ++ t) 1
+  pub behind : (mark s t : List ℕ) → OccursAt mark (s ++ (mark ++ t)) (length s + 1)
+  pub none-at-0 : {mark t : List ℕ} → OccursAt mark t 0 → ⊥
+  -- "The empty mark occurs at 1 in every text.": none lacks it, and both indices are 1
+  pub empty-mark : (t : List ℕ) → FirstAt [] t 1
+  pub empty-answer : {xs : List ℕ} (r : Sought) → Accepted xs → FindMark xs [] r → (lacking r ≡ false) × (leastIndex r ≡ 1) × (greatestIndex r ≡ 1)
+  -- a byte of the mark that no base holds never occurs, and is no refusal; so it is with every byte above 127
+  pub never : {xs mark : List ℕ} (r : Sought) → Asked xs mark → FindMark xs mark r → (j : ℕ) → j < length mark
+      → All (λ (b : Block). Holds (b .base) (getD mark j 0) → ⊥) (shapeOf xs) → r ≡ Sought.Nowhere
+  pub above-127 : {xs mark : List ℕ} (r : Sought) → Numbers xs → Asked xs mark → FindMark xs mark r → (j : ℕ) → j < length mark → 128 ≤ getD mark j 0
+      → r ≡ Sought.Nowhere
+  -- "Refusals: the shape's first": with text 1, whatever the mark
+  pub shape-first : (xs mark : List ℕ) (t : Told) → ShapeRefused 1 xs t → Tells Sought.Refused (FindMark xs mark) t
+  -- "then 13 if the mark is over 64 bytes, place 0": of no text, and only then
+  pub thirteen : (xs mark : List ℕ) → Accepted xs → 64 < length mark → Tells Sought.Refused (FindMark xs mark) (tell 13 0 0)
+  pub thirteen-only : (xs mark : List ℕ) (q : Refusal) → FindMark xs mark (Sought.Refused q) → told q .number ≡ 13 → Accepted xs × (64 < length mark)

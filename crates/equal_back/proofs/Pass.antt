@@ -1,12 +1,12 @@
 -- The second pass over a shape beside another, one more block at a time. Assumes nothing.
-use mathlib.Core.Path.{_≡_, refl, sym, ap, _∙_, subst}
-use mathlib.Core.List.{List, [], _∷_}
+use mathlib.Core.Path.{_≡_, sym, ap, _∙_, subst}
+use mathlib.Core.List.{List}
 use mathlib.Core.Logic.{⊎-elim}
-use Prim.Native.Nat.{ℕ, zero, suc, _+_, _-_, _*_, _/_, _≤_, _<_}
+use Prim.Native.Nat.{ℕ, _+_, _-_, _/_, _≤_, _<_}
 use native.Mathlib.Omega.{arith}
 use lib.Bits.{bitOr}
 use lib.ListN.{length, getD, take, replicate}
-use Rattle.bases.specs.Base.{Holds, Meets, baseOf}
+use Rattle.bases.specs.Base.{Holds, Meets}
 use Rattle.bases.specs.Tells.{Tells}
 use Rattle.bases.proofs.Plain.{lt-or-le}
 use Rattle.sets.specs.Set.{setOf, Exactly}
@@ -19,6 +19,7 @@ use Rattle.pads.specs.Pad.{paddedAt}
 use Rattle.pads.proofs.Paths.{padded-end, ended}
 use Rattle.rows.specs.Row.{rowIn, PutRow}
 use Rattle.rows.specs.Steps.{Given}
+use Rattle.rows.proofs.Rows.{blank-row}
 use Rattle.row_lay.specs.Lay.{Lay}
 use Rattle.row_lay.proofs.Laid.{total-all, total-more, total-zero, upper-within}
 use Rattle.row_paths.specs.Rows.{BlockIn, Shares, Takes, From, Used, Gives}
@@ -32,19 +33,6 @@ use Rattle.back_rows.specs.declared.Gathered.{Gathered}
 use Rattle.equal_back.specs.Back.{Fresh, EndBack, GivesTo, PassFrom, SideTold}
 use Rattle.equal_steps.specs.Chars.{Chars}
 use Rattle.back_rows.specs.Rows.{GatheredAt, Whenever, BlockBack}
-
--- ---- rows that are blank
-
-zeros : (n j : ℕ) → _≡_ {A = ℕ} (getD (replicate n 0) j 0) 0
-zeros zero j = refl
-zeros (suc n) zero = refl
-zeros (suc n) (suc j) = zeros n j
-
-blank-row : (w : List ℕ) (j : ℕ) → w ≡ replicate (length w) 0 → rowIn w j ≡ 0
-unfolding baseOf
-blank-row w j e =
-    let at : (i : ℕ) → getD w i 0 ≡ 0 = λ i. ap (λ (v : List ℕ). getD v i 0) e ∙ zeros (length w) i in
-    (λ i. baseOf (at (j * 4) i ∷ (at (j * 4 + 1) i ∷ (at (j * 4 + 2) i ∷ (at (j * 4 + 3) i ∷ [])))))
 
 -- ---- a block begins with nothing used
 
@@ -73,7 +61,7 @@ module _ (pad : ℕ) (x y : List ℕ) {z e s mines rows : List ℕ} {last : ℕ}
     moved-is = subst (λ (q : ℕ). Exactly moved (λ j. From q (λ h. Takes Y X W U j h))) (sym f) (moved-last (ended pad (shapeOf x)) padding moved used);
     own-is = λ h l g. absurd (omega arith);
     others-are = λ j l. subst (λ (q : ℕ). Exactly (rowIn others′ j) (GivesTo pad y x j q)) (sym f)
-        (given-last (ended pad (shapeOf x)) padding moved used j _ _ (omega arith) gi (lay .slot j (let n = shape-length y in omega arith)) (blank-row others j o));
+        (given-last (ended pad (shapeOf x)) padding moved used j _ _ (omega arith) gi (lay .slot j (let n = shape-length y in omega arith)) (blank-row others (length others) j o));
   }
     where
       X : ℕ → Block

@@ -1,30 +1,15 @@
 -- What was gathered, and what is free, is all that is to be known. Assumes nothing.
-use mathlib.Core.Path.{_≡_, refl, ap, _∙_}
+use mathlib.Core.Path.{_≡_}
 use mathlib.Core.List.{List}
-use Prim.Native.Nat.{ℕ, zero, suc, _+_, _*_, _/_, _≤_, _<_}
+use Prim.Native.Nat.{ℕ, _+_, _/_, _≤_, _<_}
 use lib.Bits.{bitAnd, bitOr}
-use lib.ListN.{getD, replicate}
-use Rattle.bases.specs.Base.{baseOf, Empty, Least}
+use Rattle.bases.specs.Base.{Empty, Least}
 use Rattle.sets.specs.Set.{setOf, Exactly}
 use Rattle.rows.specs.Row.{rowIn}
 use Rattle.rows.specs.Steps.{Given}
 use Rattle.order_rows.proofs.Known.{known-even, known-free}
 use Rattle.order_states.specs.declared.Gathered.{Gathered}
 use Rattle.order_texts.specs.Freed.{Freed}
-
--- ---- blank rows
-
-blank-at : (n i : ℕ) → _≡_ {A = ℕ} (getD (replicate n 0) i 0) 0
-blank-at zero i = refl
-blank-at (suc n) zero = refl
-blank-at (suc n) (suc i) = blank-at n i
-
-pub blank-row : (w : List ℕ) (n j : ℕ) → w ≡ replicate n 0 → rowIn w j ≡ 0
-unfolding baseOf
-blank-row w n j e = ap (λ (v : List ℕ). rowIn v j) e ∙ words
-  where
-    words : rowIn (replicate n 0) j ≡ 0
-    words = rw (blank-at n (j * 4), blank-at n (j * 4 + 1), blank-at n (j * 4 + 2), blank-at n (j * 4 + 3)) refl
 
 -- ---- where no text parts, and where the first that does is at f
 

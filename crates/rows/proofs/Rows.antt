@@ -1,10 +1,10 @@
 -- A row that is set, and the rows beside it. Assumes nothing.
-use mathlib.Core.Path.{_≡_, refl, sym, _∙_, subst}
+use mathlib.Core.Path.{_≡_, refl, sym, ap, _∙_, subst}
 use mathlib.Core.List.{List, [], _∷_}
 use mathlib.Core.Logic.{⊎-elim}
-use Prim.Native.Nat.{ℕ, _+_, _*_, _/_, _<_}
+use Prim.Native.Nat.{ℕ, zero, suc, _+_, _*_, _/_, _<_}
 use native.Mathlib.Omega.{arith}
-use lib.ListN.{length, getD, set, take, length-set}
+use lib.ListN.{length, getD, set, take, replicate, length-set}
 use lib.Seq.{getD-set-same, getD-set-other, getD-take}
 use Rattle.bases.specs.Base.{baseOf}
 use Rattle.bases.proofs.Plain.{lt-or-le}
@@ -62,3 +62,17 @@ rows-more P {w} {w′} {j} {s} p f h i l = ⊎-elim
 pub row-in-part : (n : ℕ) (w : List ℕ) (j : ℕ) → j * 4 + 3 < n → rowIn (take n w) j ≡ rowIn w j
 row-in-part n w j h =
     words-same (getD-take n w (j * 4) 0 (omega arith)) (getD-take n w (j * 4 + 1) 0 (omega arith)) (getD-take n w (j * 4 + 2) 0 (omega arith)) (getD-take n w (j * 4 + 3) 0 h)
+
+-- ---- blank rows
+
+blank-at : (n i : ℕ) → _≡_ {A = ℕ} (getD (replicate n 0) i 0) 0
+blank-at zero i = refl
+blank-at (suc n) zero = refl
+blank-at (suc n) (suc i) = blank-at n i
+
+pub blank-row : (w : List ℕ) (n j : ℕ) → w ≡ replicate n 0 → rowIn w j ≡ 0
+unfolding baseOf
+blank-row w n j e = ap (λ (v : List ℕ). rowIn v j) e ∙ words
+  where
+    words : rowIn (replicate n 0) j ≡ 0
+    words = rw (blank-at n (j * 4), blank-at n (j * 4 + 1), blank-at n (j * 4 + 2), blank-at n (j * 4 + 3)) refl

@@ -226,7 +226,7 @@ pub fn first(s: Set) -> usize
 }
 
 // The highest bit of a word that is not 0.
-fn highest(w: u64) -> usize
+pub fn highest(w: u64) -> usize
     requires { ⌜ (w ≡ 0 → ⊥) ⌝ }
     ensures { λ r. ⌜ Greatest w r × (r < 64) ⌝ }
 {

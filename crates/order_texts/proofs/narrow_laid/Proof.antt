@@ -14,7 +14,7 @@ use Rattle.shapes.specs.Lent.{shapeOf}
 use Rattle.shapes.proofs.All.{all-of}
 use Rattle.shapes.proofs.Lent.{small-bases}
 use Rattle.order_texts.proofs.Answers.{one-none, one-some}
-use Rattle.order_texts.proofs.Known.{blank-row}
+use Rattle.rows.proofs.Rows.{blank-row}
 use Rattle.order_texts.proofs.Sides.{none-right, some-length, narrowed-one}
 use borrow.Author.Needs.{needs}
 use Rattle.order_texts.proofs.narrow_laid.Statement.{statement}

@@ -1,0 +1,162 @@
+-- Request 7 of document 02 holds: each field by citation. Assumes nothing.
+use mathlib.Core.Path.{_≡_, refl, sym, ap, _∙_, subst}
+use mathlib.Core.Bool.{true, false, false≢true}
+use mathlib.Core.List.{List, [], _++_}
+use mathlib.Core.Logic.{_↔_}
+use Prim.Native.Nat.{ℕ, _+_, _≤_, _<_}
+use native.Mathlib.Omega.{arith}
+use lib.ListN.{length, getD}
+use Rattle.answers.specs.Told.{Told, tell, told}
+use Rattle.answers.specs.Turns.{here, later}
+use Rattle.answers.specs.declared.Refusal.{Refusal}
+use Rattle.answers.specs.declared.Sought.{Sought}
+use Rattle.answers.specs.declared.Sought.the-variants.{Nowhere, InSome, InAll, Refused}
+use Rattle.bases.specs.Base.{Holds}
+use Rattle.sets.proofs.Exact.{held-under}
+use Rattle.shapes.specs.All.{All}
+use Rattle.shapes.specs.All.All.{none, more}
+use Rattle.shapes.specs.Shape.{Block, Filling, done, fill, Fits, textOf}
+use Rattle.shapes.specs.Wrong.{BlockRefused}
+use Rattle.shapes.specs.Wrong.BlockRefused.{crossed, too-large, disagree}
+use Rattle.shapes.specs.Lent.{Numbers, shapeOf, Accepted, ShapeRefused}
+use Rattle.shapes.specs.Lent.BlocksRefused.{wrong-block, too-long}
+use Rattle.shapes.specs.Lent.ShapeRefused.{wrong-length, wrong-blocks}
+use Rattle.shapes.proofs.All.{all-append, all-left, all-right, all-at, all-map}
+use Rattle.shapes.proofs.Lent.{small-bases}
+use Rattle.shapes.proofs.Refused.{shape-not}
+use Rattle.find_texts.specs.Occurs.{Lacks, FirstAt, SomeLacks, SomeFirst}
+use Rattle.find_texts.proofs.Occur.{occurs-within}
+use Rattle.find_texts.proofs.Found.{empty-first}
+use Rattle.find_texts.proofs.Whole.{lacks-or-has, some-text}
+use Rattle.find_calls.specs.Find.{Asked, FindRefused, lacking, leastIndex, greatestIndex}
+use Rattle.find_calls.proofs.Determined.{find-refused-not, has-not-lacks}
+use Rattle.dashed.specs.Promises.{FindMark}
+use Rattle.demands.specs.Requests.{Request7}
+use Rattle.demands.proofs.Refusals.{find-refuses}
+use Rattle.demands.proofs.Request1.{tells}
+
+-- some text of an accepted shape lacks what all of them lack
+all-lack : {xs mark : List ℕ} → Asked xs mark → ((t : List ℕ) → Fits (shapeOf xs) t → Lacks mark t) → SomeLacks mark (shapeOf xs)
+all-lack a n = let t = some-text (a .accepted .sound) in record { text = t .0; fits = t .1; lacks = n (t .0) (t .1) }
+
+-- an index is above 0
+index-above : {mark : List ℕ} {s : List Block} {i : ℕ} → SomeFirst mark s i → i ≡ 0 → ⊥
+index-above x e = let w = occurs-within (x .first .there) .1 in omega arith
+
+not-in-text : {s : List Block} {f : List (List ℕ)} (c : ℕ) → All (λ (b : Block). Holds (b .base) c → ⊥) s → Filling s f → All (λ (d : ℕ). d ≡ c → ⊥) (textOf f)
+unfolding textOf
+not-in-text c none done = none
+not-in-text c (more {a = b} n ns) (fill run rest) = all-append (all-map (λ d h e. n (subst (Holds (b .base)) e h)) (run .held)) (not-in-text c ns rest)
+
+module _ {xs mark : List ℕ} (a : Asked xs mark) where
+  lacks : (r : Sought) → FindMark xs mark r → (lacking r ≡ true) ↔ SomeLacks mark (shapeOf xs)
+  lacks Nowhere p = ((λ e. all-lack a (p .1)), λ x. refl)
+  lacks (InSome i j) p = ((λ e. p .1 .0), λ x. refl)
+  lacks (InAll i j) p = ((λ e. absurd (false≢true e)), λ x. absurd (p .1 .0 x))
+  lacks (Refused q) p = absurd (find-refused-not xs mark p a)
+
+  least-there : (r : Sought) → FindMark xs mark r → 0 < leastIndex r → SomeFirst mark (shapeOf xs) (leastIndex r)
+  least-there Nowhere p h = absurd (omega arith)
+  least-there (InSome i j) p h = p .1 .1 .at-least
+  least-there (InAll i j) p h = p .1 .1 .at-least
+  least-there (Refused q) p h = absurd (find-refused-not xs mark p a)
+
+  greatest-there : (r : Sought) → FindMark xs mark r → 0 < leastIndex r → SomeFirst mark (shapeOf xs) (greatestIndex r)
+  greatest-there Nowhere p h = absurd (omega arith)
+  greatest-there (InSome i j) p h = p .1 .1 .at-greatest
+  greatest-there (InAll i j) p h = p .1 .1 .at-greatest
+  greatest-there (Refused q) p h = absurd (find-refused-not xs mark p a)
+
+  between : (r : Sought) → FindMark xs mark r → (t : List ℕ) → Fits (shapeOf xs) t → (i : ℕ) → FirstAt mark t i → (leastIndex r ≤ i) × (i ≤ greatestIndex r)
+  between Nowhere p t f k h = absurd (p .1 t f .nowhere k (h .there))
+  between (InSome i j) p t f k h = let x : SomeFirst mark (shapeOf xs) k = record { text = t; fits = f; first = h } in (p .1 .1 .from k x, p .1 .1 .to k x)
+  between (InAll i j) p t f k h = let x : SomeFirst mark (shapeOf xs) k = record { text = t; fits = f; first = h } in (p .1 .1 .from k x, p .1 .1 .to k x)
+  between (Refused q) p t f k h = absurd (find-refused-not xs mark p a)
+
+  none-has : (r : Sought) → FindMark xs mark r → (leastIndex r ≡ 0) ↔ ((t : List ℕ) → Fits (shapeOf xs) t → Lacks mark t)
+  none-has Nowhere p = ((λ e. p .1), λ n. refl)
+  none-has (InSome i j) p = ((λ e. absurd (index-above (p .1 .1 .at-least) e)), λ n. absurd (has-not-lacks (p .1 .1 .at-least) n))
+  none-has (InAll i j) p = ((λ e. absurd (index-above (p .1 .1 .at-least) e)), λ n. absurd (has-not-lacks (p .1 .1 .at-least) n))
+  none-has (Refused q) p = absurd (find-refused-not xs mark p a)
+
+  none-both : (r : Sought) → FindMark xs mark r → leastIndex r ≡ 0 → greatestIndex r ≡ 0
+  none-both Nowhere p e = refl
+  none-both (InSome i j) p e = absurd (index-above (p .1 .1 .at-least) e)
+  none-both (InAll i j) p e = absurd (index-above (p .1 .1 .at-least) e)
+  none-both (Refused q) p e = refl
+
+  -- no fitting text has a character that no base holds
+  never : (r : Sought) → FindMark xs mark r → (j : ℕ) → j < length mark → All (λ (b : Block). Holds (b .base) (getD mark j 0) → ⊥) (shapeOf xs) → r ≡ Nowhere
+  never r p j l n = go r p
+    where
+      not-there : {i : ℕ} → SomeFirst mark (shapeOf xs) i → ⊥
+      not-there x =
+          let o = x .first .there in
+          let all = subst (All (λ (c : ℕ). c ≡ getD mark j 0 → ⊥)) (x .fits .joined ∙ o .text) (not-in-text (getD mark j 0) n (x .fits .filling)) in
+          all-at 0 (all-left mark (o .after) (all-right (o .before) (mark ++ o .after) all)) j l refl
+
+      go : (s : Sought) → FindMark xs mark s → s ≡ Nowhere
+      go Nowhere q = refl
+      go (InSome k m) q = absurd (not-there (q .1 .1 .at-least))
+      go (InAll k m) q = absurd (not-there (q .1 .1 .at-least))
+      go (Refused k) q = absurd (find-refused-not xs mark q a)
+
+  above-127 : (r : Sought) → Numbers xs → FindMark xs mark r → (j : ℕ) → j < length mark → 128 ≤ getD mark j 0 → r ≡ Nowhere
+  above-127 r n p j l h = never r p j l (all-map (λ b s held. let k = held-under 128 s (getD mark j 0) held in omega arith) (small-bases xs n))
+
+empty-answer : {xs : List ℕ} (r : Sought) → Accepted xs → FindMark xs [] r → (lacking r ≡ false) × (leastIndex r ≡ 1) × (greatestIndex r ≡ 1)
+empty-answer {xs} Nowhere a p = let t = some-text (a .sound) in absurd (p .1 (t .0) (t .1) .nowhere 1 (empty-first (t .0) .there))
+empty-answer {xs} (InSome i j) a p = let x = p .1 .0 in absurd (x .lacks .nowhere 1 (empty-first (x .text) .there))
+empty-answer {xs} (InAll i j) a p =
+    let x = p .1 .1 .at-least in
+    let y = p .1 .1 .at-greatest in
+    let l = occurs-within (x .first .there) .1 in
+    let g = occurs-within (y .first .there) .1 in
+    let m = x .first .first 1 (empty-first (x .text) .there) in
+    let n = y .first .first 1 (empty-first (y .text) .there) in
+    (refl, omega arith, omega arith)
+empty-answer {xs} (Refused q) a p = absurd (find-refused-not xs [] p (record { accepted = a; few = omega arith }))
+
+-- 13 is no refusal of a shape
+numbered : {t : Told} {n a b : ℕ} → t ≡ tell n a b → t .number ≡ 13 → n ≡ 13
+numbered e h = sym (ap (λ (u : Told). u .number) e) ∙ h
+
+block-number : {n i : ℕ} {b : Block} {t : Told} → BlockRefused n i b t → t .number ≡ 13 → ⊥
+block-number (crossed h e) n = let z : _≡_ {A = ℕ} 2 13 = numbered e n in omega arith
+block-number (too-large c h e) n = let z : _≡_ {A = ℕ} 10 13 = numbered e n in omega arith
+block-number (disagree c l h e) n = let z : _≡_ {A = ℕ} 11 13 = numbered e n in omega arith
+
+shape-number : {n : ℕ} {xs : List ℕ} {t : Told} → ShapeRefused n xs t → t .number ≡ 13 → ⊥
+shape-number (wrong-length l e) n = let z : _≡_ {A = ℕ} 1 13 = numbered e n in omega arith
+shape-number (wrong-blocks r (wrong-block k f)) n = block-number (f .refused) n
+shape-number (wrong-blocks r (too-long g h e)) n = let z : _≡_ {A = ℕ} 3 13 = numbered e n in omega arith
+
+thirteen-only : (xs mark : List ℕ) (q : Refusal) → FindMark xs mark (Refused q) → told q .number ≡ 13 → Accepted xs × (64 < length mark)
+thirteen-only xs mark q p e = go (told q) p e
+  where
+    go : (t : Told) → FindRefused xs mark t → t .number ≡ 13 → Accepted xs × (64 < length mark)
+    go t (here d) n = absurd (shape-number d n)
+    go t (later a d) n = (a, let l = d .lacking in omega (arith, l))
+
+pub request7 : Request7
+request7 = record {
+  lacks = λ r a p. lacks a r p;
+  least-there = λ r a p. least-there a r p;
+  greatest-there = λ r a p. greatest-there a r p;
+  between = λ r a p. between a r p;
+  none-has = λ r a p. none-has a r p;
+  none-both = λ r a p. none-both a r p;
+  lacks-or-has = lacks-or-has;
+  lacks-not-has = λ l o. l .nowhere _ o;
+  one-first = λ p q. let a = p .first _ (q .there) in let b = q .first _ (p .there) in omega arith;
+  from-one = λ mark t. record { before = []; after = t; text = refl; index = refl };
+  behind = λ mark s t. record { before = s; after = t; text = refl; index = refl };
+  none-at-0 = λ o. let w = occurs-within o .1 in omega arith;
+  empty-mark = empty-first;
+  empty-answer = λ r a p. empty-answer r a p;
+  never = λ r a p. never a r p;
+  above-127 = λ r n a p. above-127 a r n p;
+  shape-first = λ xs mark t d. tells (find-refuses xs mark) (λ a. shape-not d (a .0)) (here d);
+  thirteen = λ xs mark a l. tells (find-refuses xs mark) (λ b. let g = b .1 in omega arith) (later a (record { lacking = λ h. omega arith; tells = refl }));
+  thirteen-only = thirteen-only;
+}

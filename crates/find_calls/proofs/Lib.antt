@@ -1,0 +1,3 @@
+-- The laws of the call that seeks a mark.
+pub mod Answer
+pub mod Determined

@@ -1,0 +1,2 @@
+-- What a search has found of the blocks that are read.
+pub mod Reads

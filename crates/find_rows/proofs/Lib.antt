@@ -1,0 +1,3 @@
+-- The laws of the rows of a search.
+pub mod Arrivals
+pub mod Turns
