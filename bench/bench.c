@@ -9,6 +9,7 @@
 // The proved calls: a slice is a pointer and a length.
 extreme wedgeotter_least, wedgeotter_greatest;
 uint64_t wedgeotter_sweep(const uint64_t *x, size_t n, const uint64_t *y, size_t m, uint64_t *out, size_t k);
+uint64_t wedgeotter_tray(const uint64_t *blocks, size_t n, const uint64_t *pairs, size_t m);
 fitting wedgeotter_fits;
 finding wedgeotter_find;
 narrowing wedgeotter_exact, wedgeotter_padded, wedgeotter_at_most, wedgeotter_before;
@@ -144,6 +145,54 @@ static void sweeps(const char *size, size_t blocks, uint64_t most) {
         TIME(best[1], 0, SHAPES, plain_sweep(shape[i], length[i], shape[NEXT], length[NEXT], b, 64));
     }
     show("sweep", size, 2, best), puts("");
+}
+
+// The answers of a row of 64 records in one number, as the proved call's door gives it.
+static uint64_t answers_of(const struct answer *row) {
+    uint64_t sum = 0;
+    for (int i = 0; i < 64; i++) {
+        uint64_t looks = row[i].looks % 65536;
+        sum = sum % 4294967296 * 3 + (row[i].verdict == PLACES ? looks : row[i].verdict == CANNOT ? 65536 + looks : 131072);
+    }
+    return sum;
+}
+
+static uint64_t tray_in_c(const uint64_t *blocks, size_t n, const uint64_t *pairs) {
+    struct answer row[64];
+    uint64_t refused = plain_tray(blocks, n, pairs, 256, row, 64);
+    return refused ? 1 : answers_of(row);
+}
+
+// So many single sweeps by the proved call as the tray has pairs, which are known to be good.
+static uint64_t singles(const uint64_t *blocks, const uint64_t *pairs) {
+    uint64_t sum = 0, out[64];
+    for (const uint64_t *p = pairs; p < pairs + 256; p += 4)
+        sum = sum % 4294967296 * 3 + wedgeotter_sweep(blocks + 4 * p[0], 4 * (p[1] - p[0]), blocks + 4 * p[2], 4 * (p[3] - p[2]), out, 64);
+    return sum;
+}
+
+// A tray of 64 pairs, each a shape against the next one, with the places as in `sweeps`; beside 64 single sweeps and a loop in C. First trays with bad pairs.
+static void trays(const char *size, size_t blocks, uint64_t most) {
+    static uint64_t run[SHAPES * 128 + 3];
+    uint64_t pairs[256];
+    size_t n = 4 * blocks * SHAPES;
+    for (int i = 0; i < SHAPES; i++) make(run + 4 * blocks * i, blocks, most);
+    for (int i = 0; i + 1 < SHAPES; i += 4) memcpy(run + 4 * blocks * (i + 1), run + 4 * blocks * i, 32 * blocks);
+    for (int turn = 0; turn < 200; turn++) {
+        for (int i = 0; i < 256; i++) pairs[i] = rnd(blocks * SHAPES + 2);
+        for (int i = 0; i < 256; i += 2)
+            if (rnd(4)) pairs[i + 1] = pairs[i] + rnd(4);
+        same(wedgeotter_tray(run, n + turn % 4, pairs, 256) == tray_in_c(run, n + turn % 4, pairs), "tray");
+    }
+    for (int i = 0; i < SHAPES; i++) pairs[4 * i] = blocks * i, pairs[4 * i + 1] = blocks * (i + 1), pairs[4 * i + 2] = blocks * NEXT, pairs[4 * i + 3] = blocks * (NEXT + 1);
+    same(wedgeotter_tray(run, n, pairs, 256) == tray_in_c(run, n, pairs), "tray");
+    double best[SIDES] = {0};
+    TURNS(1) {
+        TIME(best[0], 0, 16, wedgeotter_tray(run, n, pairs, 256));
+        TIME(best[1], 0, 16, singles(run, pairs));
+        TIME(best[2], 0, 16, tray_in_c(run, n, pairs));
+    }
+    show("tray of 64 pairs", size, SIDES, best), puts("");
 }
 
 // A mark of so many bytes sought in the shapes: letters of the bases at random, or one of them throughout. First the answers on marks of every length, also with bytes
@@ -526,7 +575,7 @@ static void books(const char *size, int joins, size_t blocks, uint64_t most) {
 int main(void) {
     puts("Times per call, the least of several turns, in the mean over the inputs: ours is the proved call, bytes plain C with byte tables, rows plain C with rows of bits.");
     puts("After each plain C the ratio of ours to it; for narrowing, joins and common texts then that to our equality to the letter on the same pairs. Least and greatest text");
-    puts("and the sweep have one plain C; a mark is found by rows that are spread to others, and by rows in place as ours. Equality but for padding makes a second pass on pairs that are none to the letter; the ratio without these follows, and the greatest of a pair.");
+    puts("and the sweep have one plain C; a mark is found by rows that are spread to others, and by rows in place as ours; a tray stands beside as many single calls of ours, then a loop in plain C. Equality but for padding makes a second pass on pairs that are none to the letter; the ratio without these follows, and the greatest of a pair.");
     printf("%-52s %12s %12s %6s %12s %6s %8s\n", "", "ours", "bytes", "ratio", "rows", "ratio", "to equal");
     bounds("8 blocks, 40 characters", 8, 40);
     bounds("32 blocks, 250 characters", 32, 250);
@@ -534,6 +583,9 @@ int main(void) {
     for (size_t k = 0; k < 4; k++) finds("32 blocks, 250 characters", 32, 250, (size_t[]){1, 2, 8, 64}[k]);
     sweeps("8 blocks", 8, 40);
     sweeps("32 blocks", 32, 250);
+    trays("1 block", 1, 5);
+    trays("8 blocks", 8, 40);
+    trays("32 blocks", 32, 250);
     narrows("8 blocks, 40 characters", 8, 40, NEXT_ONE);
     narrows("32 blocks, 250 characters", 32, 250, NEXT_ONE);
     narrows("8 blocks, 40, tight", 8, 40, TIGHT);

@@ -99,8 +99,8 @@ struct place {
 
 static int meets(const uint64_t *a, const uint64_t *b) { return (a[0] & b[0]) || (a[1] & b[1]); }
 
-uint64_t plain_sweep(const uint64_t *x, size_t nx, const uint64_t *y, size_t ny, uint64_t *out, size_t k) {
-    if (!plain_check(x, nx) || !plain_check(y, ny) || k < nx / 2) return 1000;
+// Of checked shapes; whether there are places.
+static inline int sweep_shapes(const uint64_t *x, size_t nx, const uint64_t *y, size_t ny, uint64_t *out, uint64_t *made) {
     uint64_t n = nx / 4, m = ny / 4, looks = 0;
     struct place kept[32], at = {1, 0};
     for (uint64_t b = n; b-- > 0;) {
@@ -122,7 +122,8 @@ uint64_t plain_sweep(const uint64_t *x, size_t nx, const uint64_t *y, size_t ny,
         if (i > m) kept[b] = (struct place){1, 0};
         else kept[b] = (struct place){m + 1 - i, y[4 * (m - i) + 2] - o};
     }
-    if (kept[0].block != 1 || kept[0].offset != 0) return 100000;
+    *made = looks;
+    if (kept[0].block != 1 || kept[0].offset != 0) return 0;
     struct place end = {1, 0}, start[32];
     for (uint64_t b = 0; b < n; b++) {
         const uint64_t *s = x + 4 * b;
@@ -152,7 +153,8 @@ uint64_t plain_sweep(const uint64_t *x, size_t nx, const uint64_t *y, size_t ny,
                 o = 0;
             }
         }
-        if (left) return 100000;
+        *made = looks;
+        if (left) return 0;
         end.block = i;
         end.offset = o;
     }
@@ -160,7 +162,45 @@ uint64_t plain_sweep(const uint64_t *x, size_t nx, const uint64_t *y, size_t ny,
         out[2 * b] = start[b].block;
         out[2 * b + 1] = start[b].offset;
     }
-    return looks;
+    return 1;
+}
+
+uint64_t plain_sweep(const uint64_t *x, size_t nx, const uint64_t *y, size_t ny, uint64_t *out, size_t k) {
+    uint64_t looks;
+    if (!plain_check(x, nx) || !plain_check(y, ny) || k < nx / 2) return 1000;
+    return sweep_shapes(x, nx, y, ny, out, &looks) ? looks : 100000;
+}
+
+// What is told of the numbers lent for a shape.
+static struct refusal check_lent(const uint64_t *s, size_t n, uint64_t number) {
+    uint64_t block;
+    if (n % 4 != 0 || n == 0 || n > 128) return (struct refusal){1, number, 0};
+    uint64_t wrong = check_blocks(s, n, &block);
+    return (struct refusal){wrong, number, block};
+}
+
+// The record of a pair: its ranges, then its shapes, then the sweep.
+static struct answer judge(const uint64_t *blocks, size_t n, const uint64_t *p) {
+    struct answer a = {REFUSED_PAIR, {14, 1, 0}, 0};
+    uint64_t whole = n / 4, out[64];
+    if (p[1] < p[0] || whole < p[1]) return a;
+    a.refusal.text = 2;
+    if (p[3] < p[2] || whole < p[3]) return a;
+    const uint64_t *x = blocks + 4 * p[0], *y = blocks + 4 * p[2];
+    size_t nx = 4 * (p[1] - p[0]), ny = 4 * (p[3] - p[2]);
+    a.refusal = check_lent(x, nx, 1);
+    if (a.refusal.number) return a;
+    a.refusal = check_lent(y, ny, 2);
+    if (a.refusal.number) return a;
+    a.verdict = sweep_shapes(x, nx, y, ny, out, &a.looks) ? PLACES : CANNOT;
+    return a;
+}
+
+uint64_t plain_tray(const uint64_t *blocks, size_t n, const uint64_t *pairs, size_t m, struct answer *row, size_t k) {
+    if (m % 4 != 0 || m / 4 > 64) return 15;
+    if (k < m / 4) return 5;
+    for (size_t i = 0; i < m / 4; i++) row[i] = judge(blocks, n, pairs + 4 * i);
+    return 0;
 }
 
 // Narrowing under equality with a byte table over pairs of positions, 251 to a row. The slot past a shape's last has the padding for its base, and the position stays

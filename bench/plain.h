@@ -35,6 +35,15 @@ size_t plain_extreme(int up, const uint64_t *s, size_t n, uint8_t *out);
 struct refusal {
     uint64_t number, text, place;
 };
+
+// The answer record of a pair of a tray, and the call on a whole tray: 0, or its refusal's number.
+enum verdict { PLACES, CANNOT, REFUSED_PAIR };
+struct answer {
+    enum verdict verdict;
+    struct refusal refusal;
+    uint64_t looks;
+};
+uint64_t plain_tray(const uint64_t *blocks, size_t n, const uint64_t *pairs, size_t m, struct answer *row, size_t k);
 struct refusal plain_check_book(const uint64_t *counts, size_t texts, const uint64_t *blocks, size_t nb, const uint64_t *rules, size_t nr, size_t w);
 
 // The padding that an equality lets be dropped at the ends, as a base's first word: nothing, which is equality to the letter, or the blank.

@@ -13,7 +13,7 @@ that are looked at by the definition alone (witnesses.py).
     second.py column                   prints where the unit starts in the torque line, as `unit_column` does
     second.py witnesses CASES LINES    holds the expected lines of large cases of narrowing to fillings
 
-NAME is base, sweep, narrow, common, book, file, find, host or reader. A case is a line, its fields parted by
+NAME is base, sweep, narrow, common, book, file, find, tray, host or reader. A case is a line, its fields parted by
 single blanks. A number is lowercase hex without needless zeros. A list is its count and then its numbers; a shape
 is lent as any count of 64-bit numbers, also none. Expected counts, and what a refusal tells, are decimal.
 
@@ -65,6 +65,12 @@ text lacks the mark, after `all` where none does; `nowhere` where no fitting tex
 
     M mark w w ..    nowhere | some least greatest | all least greatest | refused number text place
 
+tray. Pairs of ranges in a run of blocks, four numbers to a pair, judged by the quick sweep. The row has r records, each
+`cannot` with 0xa5a5 looks, all shown after the call, each behind ` /`: as `places looks`, as `cannot looks` or as
+`refused number text place looks`, all decimal.
+
+    T r blocks pairs    judged records | refused number text place records
+
 host. The call of the bench host, which tests/host/check.c makes; nothing is stored of it. A report buffer of r bytes, a
 work buffer of k bytes, and the book's bytes as hex pairs, `-` if there are none. Shown are the number given back, the
 bytes written as hex pairs, whether the rest of the report is as found, and the work: zeroed where its first 63,001
@@ -91,11 +97,12 @@ import host
 import narrow
 import reader
 import sweep
+import tray
 import witnesses
 
 NAMES = {
     "base": base, "sweep": sweep, "narrow": narrow, "common": common, "book": book, "file": file, "find": find,
-    "host": host, "reader": reader,
+    "tray": tray, "host": host, "reader": reader,
 }
 
 # More than a stored file should have.

@@ -2,7 +2,7 @@
 ghost use mathlib.Core.Path.{_≡_};
 ghost use Rattle.answers.specs.Told.{told};
 
-// Why a call was refused, with the shape's, block's, output's, rule's or line's number, each from 1.
+// Why a call was refused, with the shape's, range's, block's, output's, rule's or line's number, each from 1.
 pub enum Refusal {
     Length(u64),
     Crossed(u64, u64),
@@ -17,6 +17,8 @@ pub enum Refusal {
     Line(u64),
     Size,
     Mark,
+    Range(u64),
+    Pairs,
 }
 
 // Whether a shape is one.
@@ -42,6 +44,25 @@ pub enum Written {
 pub enum Swept {
     Places(u64),
     Cannot(u64),
+    Refused(Refusal),
+}
+
+// The verdict of the quick sweep on a pair of a tray.
+pub enum SweepVerdict {
+    Places,
+    Cannot,
+    Refused(Refusal),
+}
+
+// The answer record of a pair of a tray: the verdict, with its refusal, and the looks made, 0 where it is refused.
+pub struct AnswerRecord {
+    pub verdict: SweepVerdict,
+    pub looks: u64,
+}
+
+// How the call on a whole tray ends: each pair has its answer record, or none has.
+pub enum Tray {
+    Judged,
     Refused(Refusal),
 }
 
@@ -96,6 +117,8 @@ pub fn number(r: Refusal) -> u64
         Refusal::Line(_) => 8,
         Refusal::Size => 9,
         Refusal::Mark => 13,
+        Refusal::Range(_) => 14,
+        Refusal::Pairs => 15,
     }
 }
 
@@ -116,6 +139,8 @@ pub fn text(r: Refusal) -> u64
         Refusal::Line(_) => 0,
         Refusal::Size => 0,
         Refusal::Mark => 0,
+        Refusal::Range(range) => range,
+        Refusal::Pairs => 0,
     }
 }
 
@@ -136,5 +161,7 @@ pub fn place(r: Refusal) -> u64
         Refusal::Line(line) => line,
         Refusal::Size => 0,
         Refusal::Mark => 0,
+        Refusal::Range(_) => 0,
+        Refusal::Pairs => 0,
     }
 }

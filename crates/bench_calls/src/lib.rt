@@ -1,12 +1,16 @@
 // The calls as C functions on numbers, for the benchmark and for the measuring of stack: an answer becomes a number, a
 // refusal 1000 or more.
+use answers::AnswerRecord;
 use answers::Fit;
 use answers::Narrowed;
 use answers::Ran;
 use answers::Shown;
 use answers::Sought;
+use answers::SweepVerdict;
 use answers::Swept;
+use answers::Tray;
 use answers::Written;
+ghost use Prim.Native.Nat.{_<_};
 
 #[no_mangle]
 pub extern "C" fn wedgeotter_fits(shape: &[u64], text: &[u8]) -> u64 {
@@ -53,6 +57,48 @@ pub extern "C" fn wedgeotter_sweep(x: &[u64], y: &[u64], out: &mut [u64]) -> u64
         Swept::Places(k) => k,
         Swept::Cannot(_) => 100000,
         Swept::Refused(_) => 1000,
+    }
+}
+
+// The looks, with a number for the verdict above them.
+fn answer(record: AnswerRecord) -> u64
+    ensures { λ r. ⌜ r < 262144 ⌝ }
+{
+    let verdict = record.verdict;
+    let looks = record.looks % 65536;
+    match verdict {
+        SweepVerdict::Places => looks,
+        SweepVerdict::Cannot => 65536 + looks,
+        SweepVerdict::Refused(_) => 131072,
+    }
+}
+
+// The answers of the first 64 records in one number, the later ones counting less.
+fn answers_of(row: [AnswerRecord; 66]) -> u64 {
+    let mut sum: u64 = 0;
+    let mut i: usize = 0;
+    while i < 64 {
+        sum = sum % 4294967296 * 3 + answer(row[i]);
+        i += 1;
+    }
+    sum
+}
+
+// A tray over a row of 64 records, as found a cannot with no looks. 1 for a refusal.
+#[no_mangle]
+pub extern "C" fn wedgeotter_tray(blocks: &[u64], pairs: &[u64]) -> u64 {
+    let found = AnswerRecord {
+        verdict: SweepVerdict::Cannot,
+        looks: 0,
+    };
+    let batch = tray_rows::sweep_row(blocks, pairs, [found; 66], 64);
+    let tray = batch.tray;
+    match tray {
+        Tray::Judged => {
+            let row = batch.row;
+            answers_of(row)
+        }
+        Tray::Refused(_) => 1,
     }
 }
 

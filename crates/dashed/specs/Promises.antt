@@ -3,6 +3,7 @@ use mathlib.Core.Path.{_≡_}
 use mathlib.Core.List.{List}
 use Prim.Native.Nat.{ℕ}
 use lib.IntN.{ℤ}
+use Rattle.answers.specs.declared.AnswerRecord.{AnswerRecord}
 use Rattle.answers.specs.declared.Checked.{Checked}
 use Rattle.answers.specs.declared.Fit.{Fit}
 use Rattle.answers.specs.declared.Narrowed.{Narrowed}
@@ -10,6 +11,7 @@ use Rattle.answers.specs.declared.Ran.{Ran}
 use Rattle.answers.specs.declared.Shown.{Shown}
 use Rattle.answers.specs.declared.Sought.{Sought}
 use Rattle.answers.specs.declared.Swept.{Swept}
+use Rattle.answers.specs.declared.Tray.{Tray}
 use Rattle.answers.specs.declared.Written.{Written}
 use Rattle.book_runs.specs.Rounds.{RunPromise}
 use Rattle.common_calls.specs.Common.{ShowPromise}
@@ -25,6 +27,7 @@ use Rattle.pairs.specs.Narrow.{NarrowPromise}
 use Rattle.shapes.specs.Lent.{ShapeChecked}
 use Rattle.texts.specs.Order.{AtMost, Before}
 use Rattle.texts.specs.Padding.{Padded}
+use Rattle.trays.specs.Tray.{TrayPromise}
 
 -- check a shape: sound, or the one refusal that is due
 abbrev pub CheckShape : List ℕ → Checked → Type 0
@@ -49,6 +52,10 @@ GreatestText xs out out′ r = ExtremePromise Greatest xs out out′ r
 -- the quick sweep of xs in ys: the answer, the looks and the output are those of document 01's steps
 abbrev pub Sweep : List ℕ → List ℕ → List ℕ → List ℕ → Swept → Type 0
 Sweep xs ys out out′ r = SweepPromise xs ys out out′ r
+
+-- a tray of pairs (document 02, order 8): lent a run of blocks, a list of pairs and a row of answer records; with ′ the row as handed back. The call is `trays`' own
+abbrev pub SweepTray : List ℕ → List ℕ → List AnswerRecord → List AnswerRecord → Tray → Type 0
+SweepTray blocks pairs row row′ r = TrayPromise blocks pairs row row′ r
 
 -- narrowing under equality once trailing blanks are dropped (document 02, order 5): lent xs and ys, work, and two outputs ox and oy; with ′ they are as handed back
 abbrev pub NarrowPadded : List ℕ → List ℕ → List ℕ → List ℕ → List ℕ → List ℕ → List ℕ → List ℕ → Narrowed → Type 0

@@ -8,6 +8,10 @@ use answers::Shown;
 use answers::Sought;
 use answers::Swept;
 use answers::Written;
+
+// Judges a tray of pairs at once, up to 64, each by the quick sweep of one range of the lent blocks in another, into the answer record of its number. Its promise is
+// `SweepTray`. It is handed on as it is: a function that passes a slice of structs on would be proved by hand a second time.
+pub use trays::sweep_tray;
 ghost use Rattle.dashed.specs.Promises.{CheckShape, FitsShape, Earlier, LeastText, GreatestText, Sweep, NarrowPadded, NarrowExact, NarrowAtMost, NarrowBefore, NarrowJoin, CommonText, FindMark, RunBook, RunFile, RunHost};
 
 // Checks a shape, lent as 64-bit numbers, four to a block.

@@ -22,10 +22,11 @@ use Rattle.book_steps.proofs.Standing.{standing-first}
 use Rattle.file_runs.proofs.Determined.{run-file-determined}
 use Rattle.host_calls.proofs.Determined.{host-determined}
 use Rattle.host_calls.proofs.Numbers.{host-refused}
+use Rattle.trays.proofs.Determined.{tray-determined}
 use Rattle.find_calls.proofs.Determined.{find-determined}
 use Rattle.dashed.proofs.Determined.{check-shape-determined, fits-determined, earlier-determined, extreme-determined}
 use Rattle.demands.specs.Demands.{Demand1, Demand2, Demand3, Exact, KeepsExactly, ExactJoin, KeepsTriples}
-use Rattle.demands.proofs.Refusals.{check-shape-refuses, fits-refuses, find-refuses, text-refuses, sweep-refuses, common-text-refuses, narrowing-refuses, join-refuses, run-book-refuses, run-file-refuses, run-host-refuses}
+use Rattle.demands.proofs.Refusals.{check-shape-refuses, fits-refuses, find-refuses, text-refuses, sweep-refuses, tray-pair-refuses, tray-refuses, common-text-refuses, narrowing-refuses, join-refuses, run-book-refuses, run-file-refuses, run-host-refuses}
 use Rattle.demands.proofs.Exact.{none-texts, some-texts, keeps-exactly, narrowed-shapes}
 use Rattle.demands.proofs.Joined.{none-triples, some-triple, keeps-triples, joined-shapes}
 use Rattle.demands.proofs.Sequences.{all-right, alone-stable, stable-alone, calls-agree, permuted-agree, calls-widest, calls-none, calls-accepted, runner-stable, runner-none}
@@ -38,6 +39,8 @@ demand-1 = record {
   least = text-refuses Least;
   greatest = text-refuses Greatest;
   sweep = sweep-refuses;
+  tray = tray-refuses;
+  tray-pair = tray-pair-refuses;
   join = join-refuses;
   common-text = common-text-refuses;
   find = find-refuses;
@@ -47,6 +50,7 @@ demand-1 = record {
   least-untouched = λ xs out out′ q p. p .1;
   greatest-untouched = λ xs out out′ q p. p .1;
   sweep-untouched = λ xs ys out out′ q p. p .1;
+  tray-untouched = λ blocks pairs row row′ q p. p .1;
   join-untouched = λ xs ys zs work ox oy oz work′ ox′ oy′ oz′ q p. (p .1 .work-kept, p .1 .first-kept, p .1 .second-kept, p .1 .third-kept);
   common-text-untouched = λ xs ys work out work′ out′ q p. (p .1, p .2);
   book-untouched = λ counts blocks rules work blocks′ work′ q p. (p .1, p .2);
@@ -62,6 +66,7 @@ demand-1 = record {
   least-one = extreme-determined Least;
   greatest-one = extreme-determined Greatest;
   sweep-one = λ xs ys out out′ out″ r s p q. sweep-determined xs ys out out′ out″ r s p q;
+  tray-one = tray-determined;
   join-one = λ xs ys zs work ox oy oz work′ ox′ oy′ oz′ work″ ox″ oy″ oz″ r s p q. join-determined xs ys zs work ox oy oz r s p q;
   common-text-one = common-one;
   find-one = find-determined;

@@ -4,6 +4,7 @@ pub mod Sequences
 pub mod Choices
 pub mod Exact
 pub mod Joined
+pub mod Numbers
 pub mod Refusals
 pub mod Demands
 pub mod Request1
@@ -14,3 +15,4 @@ pub mod Cannot
 pub mod Request5
 pub mod Request6
 pub mod Request7
+pub mod Request8

@@ -7,6 +7,7 @@ use native.Mathlib.Omega.{arith}
 use lib.ListN.{length}
 use Rattle.answers.specs.Told.{Told, told}
 use Rattle.answers.specs.declared.Refusal.{Refusal}
+use Rattle.answers.specs.declared.AnswerRecord.{AnswerRecord}
 use Rattle.answers.specs.declared.Checked.{Checked}
 use Rattle.answers.specs.declared.Fit.{Fit}
 use Rattle.answers.specs.declared.Narrowed.{Narrowed}
@@ -14,6 +15,7 @@ use Rattle.answers.specs.declared.Ran.{Ran}
 use Rattle.answers.specs.declared.Shown.{Shown}
 use Rattle.answers.specs.declared.Sought.{Sought}
 use Rattle.answers.specs.declared.Swept.{Swept}
+use Rattle.answers.specs.declared.Tray.{Tray}
 use Rattle.answers.specs.declared.Written.{Written}
 use Rattle.shapes.specs.Lent.{shapeOf, Accepted, ShapeRefused}
 use Rattle.shapes.proofs.Refused.{shape-one, shape-not}
@@ -29,6 +31,12 @@ use Rattle.common_calls.specs.Common.{ShowRoom, ShowRefused}
 use Rattle.common_calls.proofs.Common.{show-refused-one, show-refused-not}
 use Rattle.sweep_calls.specs.Sweep.{SweepRefused}
 use Rattle.sweep_calls.proofs.Sweeping.{one-refusal, not-due}
+use Rattle.tray_pairs.specs.Judged.{RecordRefused, RecordAccepted, Judged}
+use Rattle.tray_pairs.specs.Judged.Judged.{swept, refused}
+use Rattle.tray_pairs.specs.declared.Pair.{Pair as TrayPair}
+use Rattle.tray_pairs.proofs.Judged.{record-refused, record-refused-one, record-refused-not}
+use Rattle.trays.specs.Tray.{TrayRefused, TrayAccepted}
+use Rattle.trays.proofs.Determined.{tray-refused-one, tray-refused-not}
 use Rattle.find_calls.specs.Find.{FindRefused}
 use Rattle.find_calls.proofs.Determined.{find-refused-one, find-refused-not}
 use Rattle.books.specs.Refused.{BookAccepted, BookRefused}
@@ -37,8 +45,8 @@ use Rattle.file_runs.specs.Promise.{RunRefused, FileAnswer}
 use Rattle.file_runs.proofs.Determined.{run-refused-one, run-file-not}
 use Rattle.host_calls.specs.Host.{negated, handed}
 use Rattle.host_calls.proofs.Numbers.{host-refused}
-use Rattle.dashed.specs.Promises.{CheckShape, FitsShape, Sweep, NarrowJoin, CommonText, FindMark, RunBook, RunFile, RunHost}
-use Rattle.demands.specs.Demands.{Refuses, TextRefused, FileAcceptable, NarrowingRefuses}
+use Rattle.dashed.specs.Promises.{CheckShape, FitsShape, Sweep, SweepTray, NarrowJoin, CommonText, FindMark, RunBook, RunFile, RunHost}
+use Rattle.demands.specs.Demands.{Refuses, refusedRecord, TextRefused, FileAcceptable, NarrowingRefuses}
 
 pub check-shape-refuses : (xs : List ℕ) → Refuses Checked.Refused (CheckShape xs) (Accepted xs) (ShapeRefused 1 xs)
 check-shape-refuses xs = record { acceptable = λ a q p. shape-not p a; malformed = malformed; one = λ t u p q. shape-one p q }
@@ -104,6 +112,26 @@ sweep-refuses xs ys out out′ = record {
     malformed n (Swept.Places k) p = absurd (n (p .accepted, p .room))
     malformed n (Swept.Cannot k) p = absurd (n (p .accepted, p .room))
     malformed n (Swept.Refused q) p = (q, refl, p .0)
+
+-- a pair of a tray, in its own record, and the whole call
+pub tray-pair-refuses : (blocks : List ℕ) (p : TrayPair) → Refuses refusedRecord (Judged blocks p) (RecordAccepted blocks p) (RecordRefused blocks p)
+tray-pair-refuses blocks p = record { acceptable = acceptable; malformed = malformed; one = λ t u d e. record-refused-one blocks p d e }
+  where
+    acceptable : RecordAccepted blocks p → (q : Refusal) → Judged blocks p (refusedRecord q) → ⊥
+    acceptable a q d = record-refused-not blocks p (record-refused blocks p q d) a
+
+    malformed : (RecordAccepted blocks p → ⊥) → (r : AnswerRecord) → Judged blocks p r → (q : Refusal) × (r ≡ refusedRecord q) × RecordRefused blocks p (told q)
+    malformed n r (swept a e) = absurd (n a)
+    malformed n r (refused q d e) = (q, e, d)
+
+pub tray-refuses : (blocks pairs : List ℕ) (row row′ : List AnswerRecord)
+    → Refuses Tray.Refused (SweepTray blocks pairs row row′) (TrayAccepted (length pairs) (length row)) (TrayRefused (length pairs) (length row))
+tray-refuses blocks pairs row row′ = record { acceptable = λ a q p. tray-refused-not (p .0) a; malformed = malformed; one = λ t u p q. tray-refused-one p q }
+  where
+    malformed : (TrayAccepted (length pairs) (length row) → ⊥) → (r : Tray) → SweepTray blocks pairs row row′ r
+        → (q : Refusal) × (r ≡ Tray.Refused q) × TrayRefused (length pairs) (length row) (told q)
+    malformed n Tray.Judged p = absurd (n (p .0))
+    malformed n (Tray.Refused q) p = (q, refl, p .0)
 
 pub common-text-refuses : (xs ys work out work′ out′ : List ℕ)
     → Refuses Shown.Refused (CommonText xs ys work out work′ out′) (PairAccepted xs ys × ShowRoom (length work) (length out)) (ShowRefused xs ys (length work) (length out))

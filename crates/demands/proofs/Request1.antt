@@ -9,7 +9,7 @@ use lib.ListN.{length, getD}
 use Rattle.answers.specs.Told.{Told, tell, told}
 use Rattle.answers.specs.Turns.{here, later}
 use Rattle.answers.specs.declared.Refusal.{Refusal}
-use Rattle.shapes.specs.Shape.{Block, noBlock}
+use Rattle.shapes.specs.Shape.{Block, noBlock, blockCount}
 use Rattle.shapes.specs.Wrong.{Crossed, TooLarge, Disagree, BlockRefused}
 use Rattle.shapes.specs.Wrong.BlockRefused.{crossed, too-large, disagree}
 use Rattle.shapes.specs.Lent.{shapeOf, wordsOf, RightLength, FirstBlock, BlocksRefused, ShapeRefused, Accepted}
@@ -27,6 +27,10 @@ use Rattle.joins.proofs.Refused.{join-refused-not}
 use Rattle.common_calls.specs.Common.{ShowRefused}
 use Rattle.common_calls.specs.Common.ShowRefused.{shapes as show-shapes, short-work as show-work, short-output as show-output}
 use Rattle.common_calls.proofs.Common.{show-refused-not}
+use Rattle.tray_pairs.specs.Judged.{RecordRefused, Judged}
+use Rattle.tray_pairs.specs.Ranges.{Inside, lentIn}
+use Rattle.tray_pairs.specs.declared.Pair.{Pair as TrayPair}
+use Rattle.tray_pairs.proofs.Judged.{record-refused, record-refused-not}
 use Rattle.find_calls.specs.Find.{FindRefused}
 use Rattle.find_calls.proofs.Determined.{find-refused-not}
 use Rattle.sweep_calls.specs.Sweep.{SweepRefused}
@@ -51,9 +55,9 @@ use Rattle.rules.specs.Rule.{numbersOfAll}
 use Rattle.host_calls.specs.Host.{negated}
 use Rattle.host_calls.proofs.Numbers.{host-refused}
 use Rattle.dashed.specs.Promises.{RunHost}
-use Rattle.demands.specs.Demands.{Refuses, TextRefused}
+use Rattle.demands.specs.Demands.{Refuses, TextRefused, refusedRecord}
 use Rattle.demands.specs.Requests.{Tells, Tried, TellsWhich, TellsOnly, SaysWhich, OfPair, OfNarrowing, TextLookedAt, SomeBlock, Request1}
-use Rattle.demands.proofs.Refusals.{check-shape-refuses, fits-refuses, find-refuses, text-not, text-refuses, sweep-refuses, common-text-refuses, narrowing-refuses, join-refuses, run-book-refuses, run-file-refuses, run-host-refuses}
+use Rattle.demands.proofs.Refusals.{check-shape-refuses, fits-refuses, find-refuses, text-not, text-refuses, sweep-refuses, tray-pair-refuses, common-text-refuses, narrowing-refuses, join-refuses, run-book-refuses, run-file-refuses, run-host-refuses}
 
 -- ---- the numbers of a block's refusals
 
@@ -210,6 +214,17 @@ sweep-back : (xs ys : List ℕ) (n : ℕ) (t : Told) → SweepRefused xs ys n t 
 sweep-back xs ys n t (sweep-shapes p) o = p
 sweep-back xs ys n t (sweep-output a h e) o = absurd (no-5 e o)
 
+-- a pair of a tray whose ranges are inside
+module _ (blocks : List ℕ) (p : TrayPair) (i : Inside (blockCount blocks) (p .x)) (j : Inside (blockCount blocks) (p .y)) where
+  record-back : (t : Told) → RecordRefused blocks p t → PairRefused (lentIn blocks (p .x)) (lentIn blocks (p .y)) t
+  record-back t (here d) = absurd (d .lacking i)
+  record-back t (later g (here d)) = absurd (d .lacking j)
+  record-back t (later g (later h d)) = d
+
+  tray-pair : OfPair refusedRecord (Judged blocks p) (lentIn blocks (p .x)) (lentIn blocks (p .y))
+  tray-pair =
+      of-pair (tray-pair-refuses blocks p) (λ t d a. record-refused-not blocks p d a) (record-refused blocks p) (λ t d. later i (later j d)) (λ t d o. record-back t d)
+
 show-back : (xs ys : List ℕ) (w a : ℕ) (t : Told) → ShowRefused xs ys w a t → OfBlock (t .number) → PairRefused xs ys t
 show-back xs ys w a t (show-shapes p) o = p
 show-back xs ys w a t (show-work ok h e) o = absurd (no-4 e o)
@@ -336,6 +351,7 @@ request-1 = record {
   greatest = λ xs out out′. says (text-refuses _ xs out out′) (λ t d a. text-not xs out t a d) (λ q p. p .0) (λ t l k f. inl (shape-to t l k f)) (text-back xs out);
   sweep = λ xs ys out out′.
       of-pair (sweep-refuses xs ys out out′) (λ t d a. not-due xs ys out d (a .0) (a .1)) (λ q p. p .0) (λ t p. sweep-shapes p) (sweep-back xs ys (length out));
+  tray-pair = tray-pair;
   padded = narrowing _;
   exact = narrowing _;
   at-most = narrowing _;

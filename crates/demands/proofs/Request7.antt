@@ -1,12 +1,12 @@
 -- Request 7 of document 02 holds: each field by citation. Assumes nothing.
-use mathlib.Core.Path.{_≡_, refl, sym, ap, _∙_, subst}
+use mathlib.Core.Path.{_≡_, refl, _∙_, subst}
 use mathlib.Core.Bool.{true, false, false≢true}
 use mathlib.Core.List.{List, [], _++_}
-use mathlib.Core.Logic.{_↔_}
+use mathlib.Core.Logic.{_↔_, inr}
 use Prim.Native.Nat.{ℕ, _+_, _≤_, _<_}
 use native.Mathlib.Omega.{arith}
 use lib.ListN.{length, getD}
-use Rattle.answers.specs.Told.{Told, tell, told}
+use Rattle.answers.specs.Told.{Told, told}
 use Rattle.answers.specs.Turns.{here, later}
 use Rattle.answers.specs.declared.Refusal.{Refusal}
 use Rattle.answers.specs.declared.Sought.{Sought}
@@ -16,11 +16,7 @@ use Rattle.sets.proofs.Exact.{held-under}
 use Rattle.shapes.specs.All.{All}
 use Rattle.shapes.specs.All.All.{none, more}
 use Rattle.shapes.specs.Shape.{Block, Filling, done, fill, Fits, textOf}
-use Rattle.shapes.specs.Wrong.{BlockRefused}
-use Rattle.shapes.specs.Wrong.BlockRefused.{crossed, too-large, disagree}
-use Rattle.shapes.specs.Lent.{Numbers, shapeOf, Accepted, ShapeRefused}
-use Rattle.shapes.specs.Lent.BlocksRefused.{wrong-block, too-long}
-use Rattle.shapes.specs.Lent.ShapeRefused.{wrong-length, wrong-blocks}
+use Rattle.shapes.specs.Lent.{Numbers, shapeOf, Accepted}
 use Rattle.shapes.proofs.All.{all-append, all-left, all-right, all-at, all-map}
 use Rattle.shapes.proofs.Lent.{small-bases}
 use Rattle.shapes.proofs.Refused.{shape-not}
@@ -32,6 +28,7 @@ use Rattle.find_calls.specs.Find.{Asked, FindRefused, lacking, leastIndex, grea
 use Rattle.find_calls.proofs.Determined.{find-refused-not, has-not-lacks}
 use Rattle.dashed.specs.Promises.{FindMark}
 use Rattle.demands.specs.Requests.{Request7}
+use Rattle.demands.proofs.Numbers.{shape-other}
 use Rattle.demands.proofs.Refusals.{find-refuses}
 use Rattle.demands.proofs.Request1.{tells}
 
@@ -118,24 +115,11 @@ empty-answer {xs} (InAll i j) a p =
 empty-answer {xs} (Refused q) a p = absurd (find-refused-not xs [] p (record { accepted = a; few = omega arith }))
 
 -- 13 is no refusal of a shape
-numbered : {t : Told} {n a b : ℕ} → t ≡ tell n a b → t .number ≡ 13 → n ≡ 13
-numbered e h = sym (ap (λ (u : Told). u .number) e) ∙ h
-
-block-number : {n i : ℕ} {b : Block} {t : Told} → BlockRefused n i b t → t .number ≡ 13 → ⊥
-block-number (crossed h e) n = let z : _≡_ {A = ℕ} 2 13 = numbered e n in omega arith
-block-number (too-large c h e) n = let z : _≡_ {A = ℕ} 10 13 = numbered e n in omega arith
-block-number (disagree c l h e) n = let z : _≡_ {A = ℕ} 11 13 = numbered e n in omega arith
-
-shape-number : {n : ℕ} {xs : List ℕ} {t : Told} → ShapeRefused n xs t → t .number ≡ 13 → ⊥
-shape-number (wrong-length l e) n = let z : _≡_ {A = ℕ} 1 13 = numbered e n in omega arith
-shape-number (wrong-blocks r (wrong-block k f)) n = block-number (f .refused) n
-shape-number (wrong-blocks r (too-long g h e)) n = let z : _≡_ {A = ℕ} 3 13 = numbered e n in omega arith
-
 thirteen-only : (xs mark : List ℕ) (q : Refusal) → FindMark xs mark (Refused q) → told q .number ≡ 13 → Accepted xs × (64 < length mark)
 thirteen-only xs mark q p e = go (told q) p e
   where
     go : (t : Told) → FindRefused xs mark t → t .number ≡ 13 → Accepted xs × (64 < length mark)
-    go t (here d) n = absurd (shape-number d n)
+    go t (here d) n = absurd (shape-other (omega arith, inr (omega arith)) d n)
     go t (later a d) n = (a, let l = d .lacking in omega (arith, l))
 
 pub request7 : Request7

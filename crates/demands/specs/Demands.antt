@@ -8,6 +8,7 @@ use lib.IntN.{ℤ}
 use lib.ListN.{length, getD, take}
 use Rattle.answers.specs.Told.{Told, tell, told}
 use Rattle.answers.specs.declared.Refusal.{Refusal}
+use Rattle.answers.specs.declared.AnswerRecord.{AnswerRecord}
 use Rattle.answers.specs.declared.Checked.{Checked}
 use Rattle.answers.specs.declared.Fit.{Fit}
 use Rattle.answers.specs.declared.Narrowed.{Narrowed}
@@ -15,6 +16,7 @@ use Rattle.answers.specs.declared.Ran.{Ran}
 use Rattle.answers.specs.declared.Shown.{Shown}
 use Rattle.answers.specs.declared.Sought.{Sought}
 use Rattle.answers.specs.declared.Swept.{Swept}
+use Rattle.answers.specs.declared.Tray.{Tray}
 use Rattle.answers.specs.declared.Written.{Written}
 use Rattle.shapes.specs.Shape.{Block, Filling, textOf, Fits, noBlock}
 use Rattle.shapes.specs.Lent.{Numbers, shapeOf, wordsOf, Accepted, ShapeRefused}
@@ -26,6 +28,9 @@ use Rattle.pairs.specs.Pair.{PairAccepted, Room, NarrowRefused}
 use Rattle.joins.specs.Refused.{JoinAccepted, JoinRoom, JoinRefused}
 use Rattle.common_calls.specs.Common.{ShowRoom, ShowRefused}
 use Rattle.sweep_calls.specs.Sweep.{SweepRefused}
+use Rattle.tray_pairs.specs.Judged.{recorded, RecordRefused, RecordAccepted, Judged}
+use Rattle.tray_pairs.specs.declared.Pair.{Pair as TrayPair}
+use Rattle.trays.specs.Tray.{TrayRefused, TrayAccepted}
 use Rattle.find_calls.specs.Find.{FindRefused}
 use Rattle.sweep_steps.specs.Steps.{sweepOf}
 use Rattle.sweep_passes.specs.Read.{sweptOf, outputOf}
@@ -37,7 +42,7 @@ use Rattle.file_lines.specs.Book.{Book}
 use Rattle.files.specs.Departs.{FileAccepted}
 use Rattle.file_runs.specs.Promise.{RunRefused}
 use Rattle.host_calls.specs.Host.{negated}
-use Rattle.dashed.specs.Promises.{CheckShape, FitsShape, Earlier, LeastText, GreatestText, Sweep, NarrowPadded, NarrowExact, NarrowAtMost, NarrowBefore, NarrowJoin, CommonText, FindMark, RunBook, RunFile, RunHost}
+use Rattle.dashed.specs.Promises.{CheckShape, FitsShape, Earlier, LeastText, GreatestText, Sweep, SweepTray, NarrowPadded, NarrowExact, NarrowAtMost, NarrowBefore, NarrowJoin, CommonText, FindMark, RunBook, RunFile, RunHost}
 use Rattle.demands.specs.Calls.{LeftAlone, none, numbers, Ending, Calls, InOrder, WidestLeft, Choice}
 
 -- ---- demand 1
@@ -47,6 +52,10 @@ pub record Refuses {Answer : Type 0} (refused : Refusal → Answer) (Promise : A
   pub acceptable : Acceptable → (q : Refusal) → Promise (refused q) → ⊥
   pub malformed : (Acceptable → ⊥) → (r : Answer) → Promise r → (q : Refusal) × (r ≡ refused q) × Due (told q)
   pub one : (t u : Told) → Due t → Due u → t ≡ u
+
+-- The record of a tray's pair that is refused.
+abbrev pub refusedRecord : Refusal → AnswerRecord
+refusedRecord q = recorded (Swept.Refused q)
 
 -- The refusals of least and greatest text: the shape's, then 5.
 abbrev pub TextRefused : List ℕ → List ℕ → Told → Type 0
@@ -79,6 +88,10 @@ pub record Demand1 : Type 1 where
   pub greatest : (xs out out′ : List ℕ) → Refuses Written.Refused (GreatestText xs out out′) (Accepted xs × (250 ≤ length out)) (TextRefused xs out)
   pub sweep : (xs ys out out′ : List ℕ) → Refuses Swept.Refused (Sweep xs ys out out′) (PairAccepted xs ys × (2 * length (shapeOf xs) ≤ length out))
       (SweepRefused xs ys (length out))
+  pub tray : (blocks pairs : List ℕ) (row row′ : List AnswerRecord) → Refuses Tray.Refused (SweepTray blocks pairs row row′) (TrayAccepted (length pairs) (length row))
+      (TrayRefused (length pairs) (length row))
+  -- (a bad pair in its own record)
+  pub tray-pair : (blocks : List ℕ) (p : TrayPair) → Refuses refusedRecord (Judged blocks p) (RecordAccepted blocks p) (RecordRefused blocks p)
   pub join : (xs ys zs work ox oy oz work′ ox′ oy′ oz′ : List ℕ) → Refuses Narrowed.Refused (NarrowJoin xs ys zs work ox oy oz work′ ox′ oy′ oz′)
       (JoinAccepted xs ys zs × JoinRoom xs ys zs (length work) (length ox) (length oy) (length oz)) (JoinRefused xs ys zs (length work) (length ox) (length oy) (length oz))
   pub common-text : (xs ys work out work′ out′ : List ℕ) → Refuses Shown.Refused (CommonText xs ys work out work′ out′)
@@ -95,6 +108,7 @@ pub record Demand1 : Type 1 where
   pub least-untouched : (xs out out′ : List ℕ) (q : Refusal) → LeastText xs out out′ (Written.Refused q) → out′ ≡ out
   pub greatest-untouched : (xs out out′ : List ℕ) (q : Refusal) → GreatestText xs out out′ (Written.Refused q) → out′ ≡ out
   pub sweep-untouched : (xs ys out out′ : List ℕ) (q : Refusal) → Sweep xs ys out out′ (Swept.Refused q) → out′ ≡ out
+  pub tray-untouched : (blocks pairs : List ℕ) (row row′ : List AnswerRecord) (q : Refusal) → SweepTray blocks pairs row row′ (Tray.Refused q) → row′ ≡ row
   pub join-untouched : (xs ys zs work ox oy oz work′ ox′ oy′ oz′ : List ℕ) (q : Refusal) → NarrowJoin xs ys zs work ox oy oz work′ ox′ oy′ oz′ (Narrowed.Refused q)
       → (work′ ≡ work) × (ox′ ≡ ox) × (oy′ ≡ oy) × (oz′ ≡ oz)
   pub common-text-untouched : (xs ys work out work′ out′ : List ℕ) (q : Refusal) → CommonText xs ys work out work′ out′ (Shown.Refused q) → (work′ ≡ work) × (out′ ≡ out)
@@ -114,6 +128,8 @@ pub record Demand1 : Type 1 where
   pub least-one : (xs out out′ out″ : List ℕ) (r s : Written) → LeastText xs out out′ r → LeastText xs out out″ s → (r ≡ s) × (out′ ≡ out″)
   pub greatest-one : (xs out out′ out″ : List ℕ) (r s : Written) → GreatestText xs out out′ r → GreatestText xs out out″ s → (r ≡ s) × (out′ ≡ out″)
   pub sweep-one : (xs ys out out′ out″ : List ℕ) (r s : Swept) → Sweep xs ys out out′ r → Sweep xs ys out out″ s → (r ≡ s) × (out′ ≡ out″)
+  pub tray-one : (blocks pairs : List ℕ) (row row′ row″ : List AnswerRecord) (r s : Tray) → SweepTray blocks pairs row row′ r → SweepTray blocks pairs row row″ s
+      → (r ≡ s) × (row′ ≡ row″)
   pub join-one : (xs ys zs work ox oy oz work′ ox′ oy′ oz′ work″ ox″ oy″ oz″ : List ℕ) (r s : Narrowed) → NarrowJoin xs ys zs work ox oy oz work′ ox′ oy′ oz′ r
       → NarrowJoin xs ys zs work ox oy oz work″ ox″ oy″ oz″ s → (r ≡ s) × (work′ ≡ work″) × (ox′ ≡ ox″) × (oy′ ≡ oy″) × (oz′ ≡ oz″)
   pub common-text-one : (xs ys work out work′ out′ work″ out″ : List ℕ) (r s : Shown) → CommonText xs ys work out work′ out′ r

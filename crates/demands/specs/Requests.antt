@@ -3,11 +3,12 @@ use mathlib.Core.Path.{_≡_}
 use mathlib.Core.Bool.{true, false}
 use mathlib.Core.List.{List, [], _∷_, _++_, map}
 use mathlib.Core.Logic.{_⊎_, _↔_}
-use Prim.Native.Nat.{ℕ, _+_, _*_, _%_, _^_, _≤_, _<_}
+use Prim.Native.Nat.{ℕ, _+_, _-_, _*_, _/_, _%_, _^_, _≤_, _<_}
 use lib.IntN.{ℤ, pos, negℤ}
 use lib.ListN.{length, getD, take, drop, replicate}
 use Rattle.answers.specs.Told.{Told, tell, told}
 use Rattle.answers.specs.declared.Refusal.{Refusal}
+use Rattle.answers.specs.declared.AnswerRecord.{AnswerRecord}
 use Rattle.answers.specs.declared.Checked.{Checked}
 use Rattle.answers.specs.declared.Fit.{Fit}
 use Rattle.answers.specs.declared.Narrowed.{Narrowed}
@@ -15,10 +16,12 @@ use Rattle.answers.specs.declared.Ran.{Ran}
 use Rattle.answers.specs.declared.Shown.{Shown}
 use Rattle.answers.specs.declared.Sought.{Sought}
 use Rattle.answers.specs.declared.Swept.{Swept}
+use Rattle.answers.specs.declared.SweepVerdict.{SweepVerdict}
+use Rattle.answers.specs.declared.Tray.{Tray}
 use Rattle.answers.specs.declared.Written.{Written}
 use Rattle.bases.specs.Base.{Holds}
 use Rattle.shapes.specs.All.{All}
-use Rattle.shapes.specs.Shape.{Block, Sound, Fits, total, noBlock}
+use Rattle.shapes.specs.Shape.{Block, Sound, Fits, total, noBlock, blockSize, blockCount}
 use Rattle.shapes.specs.Wrong.{Crossed, TooLarge, Disagree}
 use Rattle.shapes.specs.Lent.{Numbers, shapeOf, wordsOf, RightLength, Accepted, ShapeRefused}
 use Rattle.texts.specs.Order.{AtMost}
@@ -30,13 +33,18 @@ use Rattle.extreme_steps.specs.Steps.{extreme}
 use Rattle.rules.specs.declared.Rule.{Rule}
 use Rattle.rules.specs.Rule.{ruleAt, ruleCount, ruleWith, numbersOfAll}
 use Rattle.hulls.specs.Book.{Within}
-use Rattle.pairs.specs.Pair.{PairAccepted, Room}
+use Rattle.pairs.specs.Pair.{PairAccepted, PairRefused, Room}
 use Rattle.pairs.specs.Narrow.{Cleared}
 use Rattle.joins.specs.Refused.{JoinAccepted, JoinRoom}
 use Rattle.books.specs.Counts.{RightCounts, shapeIn, SoundText}
 use Rattle.books.specs.Rules.{Names, RightRule, Keeps}
 use Rattle.books.specs.Refused.{SoundTexts, SoundRule, BookRefused, BookAccepted}
 use Rattle.common_calls.specs.Common.{ShowRoom}
+use Rattle.tray_pairs.specs.Judged.{recorded, Judged}
+use Rattle.tray_pairs.specs.Ranges.{pairSize, pairCount, pairAt, range, Inside, lentIn}
+use Rattle.tray_pairs.specs.declared.Pair.{Pair as TrayPair}
+use Rattle.tray_pairs.specs.declared.Range.{Range}
+use Rattle.trays.specs.Tray.{RightList}
 use Rattle.find_texts.specs.Occurs.{OccursAt, Lacks, FirstAt, SomeLacks, SomeFirst}
 use Rattle.find_calls.specs.Find.{Asked, lacking, leastIndex, greatestIndex}
 use Rattle.file_numerals.specs.Digits.{decimal}
@@ -45,8 +53,8 @@ use Rattle.files.specs.Departs.{FileAccepted}
 use Rattle.file_runs.specs.Ends.{FileEnds}
 use Rattle.file_reports.specs.Report.{Verdict, reportOf}
 use Rattle.host_calls.specs.Host.{negated, handed}
-use Rattle.dashed.specs.Promises.{CheckShape, FitsShape, LeastText, GreatestText, Sweep, NarrowPadded, NarrowExact, NarrowAtMost, NarrowBefore, NarrowJoin, CommonText, FindMark, RunBook, RunFile, RunHost}
-use Rattle.demands.specs.Demands.{NarrowCall, TextRefused}
+use Rattle.dashed.specs.Promises.{CheckShape, FitsShape, LeastText, GreatestText, Sweep, SweepTray, NarrowPadded, NarrowExact, NarrowAtMost, NarrowBefore, NarrowJoin, CommonText, FindMark, RunBook, RunFile, RunHost}
+use Rattle.demands.specs.Demands.{NarrowCall, TextRefused, refusedRecord}
 
 -- A call tells t: every answer that its promise permits is a refusal that tells t.
 abbrev pub Tells : {Answer : Type 0} → (Refusal → Answer) → (Answer → Type 0) → Told → Type 0
@@ -111,6 +119,9 @@ pub record Request1 : Type 0 where
   pub greatest : (xs out out′ : List ℕ) → SaysWhich Written.Refused (GreatestText xs out out′) 1 (shapeOf xs) (RightLength xs)
   pub find : (xs mark : List ℕ) → SaysWhich Sought.Refused (FindMark xs mark) 1 (shapeOf xs) (RightLength xs)
   pub sweep : (xs ys out out′ : List ℕ) → OfPair Swept.Refused (Sweep xs ys out out′) xs ys
+  -- (a pair's record, once both its ranges are inside)
+  pub tray-pair : (blocks : List ℕ) (p : TrayPair) → Inside (blockCount blocks) (p .x) → Inside (blockCount blocks) (p .y)
+      → OfPair refusedRecord (Judged blocks p) (lentIn blocks (p .x)) (lentIn blocks (p .y))
   pub padded : OfNarrowing NarrowPadded
   pub exact : OfNarrowing NarrowExact
   pub at-most : OfNarrowing NarrowAtMost
@@ -353,3 +364,57 @@ pub record Request7 : Type 0 where
   -- "then 13 if the mark is over 64 bytes, place 0": of no text, and only then
   pub thirteen : (xs mark : List ℕ) → Accepted xs → 64 < length mark → Tells Sought.Refused (FindMark xs mark) (tell 13 0 0)
   pub thirteen-only : (xs mark : List ℕ) (q : Refusal) → FindMark xs mark (Sought.Refused q) → told q .number ≡ 13 → Accepted xs × (64 < length mark)
+
+-- ---- order 8
+
+-- Lent: a run of blocks, a list of pairs, a row of answer records; row′ is the row as handed back, and record i of it `getD row′ i d`, whatever d is.
+pub record Request8 : Type 0 where
+  -- "Overnight we judge up to 64 pairs from one lent run of blocks." None too, and whatever stands in the list and in the run
+  pub up-to-64 : (blocks pairs : List ℕ) (row row′ : List AnswerRecord) (r : Tray) (n : ℕ) → n ≤ 64 → length pairs ≡ n * pairSize → n ≤ length row
+      → SweepTray blocks pairs row row′ r → r ≡ Tray.Judged
+  -- "A pair is four numbers: each range's first block, from 0, and the block past its last."
+  pub four-numbers : (front rest : List ℕ) (i a b c d : ℕ) → length front ≡ i * 4 → pairAt (front ++ (a ∷ (b ∷ (c ∷ (d ∷ rest))))) i ≡ record { x = range a b; y = range c d }
+  pub its-blocks : (blocks : List ℕ) (r : Range) → shapeOf (lentIn blocks r) ≡ take (r .past - r .first) (drop (r .first) (shapeOf blocks))
+  -- "The call fills a lent row of answer records, one to each pair"
+  pub one-each : {blocks pairs : List ℕ} {row row′ : List AnswerRecord} → SweepTray blocks pairs row row′ Tray.Judged → (i : ℕ) → i < pairCount pairs → (d : AnswerRecord)
+      → Judged blocks (pairAt pairs i) (getD row′ i d)
+  -- "verdict, looks and refusal of the quick sweep, equal to what single calls give": whatever output with room is lent to the single call
+  pub as-single : {blocks : List ℕ} {p : TrayPair} {r : AnswerRecord} (out out′ : List ℕ) (s : Swept) → Judged blocks p r → Inside (blockCount blocks) (p .x)
+      → Inside (blockCount blocks) (p .y) → Sweep (lentIn blocks (p .x)) (lentIn blocks (p .y)) out out′ s → 2 * length (shapeOf (lentIn blocks (p .x))) ≤ length out → r ≡ recorded s
+  -- so that a cannot comes only where no text fits both, and the looks are at most 2 (n + m)
+  pub cannot-sound : {blocks : List ℕ} {p : TrayPair} {r : AnswerRecord} → Judged blocks p r → r .verdict ≡ SweepVerdict.Cannot
+      → (t : List ℕ) → Fits (shapeOf (lentIn blocks (p .x))) t → Fits (shapeOf (lentIn blocks (p .y))) t → ⊥
+  pub few-looks : {blocks : List ℕ} {p : TrayPair} {r : AnswerRecord} → Judged blocks p r
+      → r .looks ≤ 2 * (length (shapeOf (lentIn blocks (p .x))) + length (shapeOf (lentIn blocks (p .y))))
+  -- "A refused record has 0 looks."
+  pub no-looks : {blocks : List ℕ} {p : TrayPair} {r : AnswerRecord} (q : Refusal) → Judged blocks p r → r .verdict ≡ SweepVerdict.Refused q → r .looks ≡ 0
+  -- "A bad pair is refused in its own record and does not stop the rest.": a pair has one record, whatever the other pairs of its tray are
+  pub own-record : {blocks pairs pairs₁ : List ℕ} {row row′ row₁ row₁′ : List AnswerRecord} → SweepTray blocks pairs row row′ Tray.Judged
+      → SweepTray blocks pairs₁ row₁ row₁′ Tray.Judged → (i j : ℕ) → i < pairCount pairs → j < pairCount pairs₁ → pairAt pairs i ≡ pairAt pairs₁ j → (d : AnswerRecord)
+      → getD row′ i d ≡ getD row₁′ j d
+  -- "Records past the last pair stay."
+  pub stay : {blocks pairs : List ℕ} {row row′ : List AnswerRecord} → SweepTray blocks pairs row row′ Tray.Judged
+      → (length row′ ≡ length row) × (drop (pairCount pairs) row′ ≡ drop (pairCount pairs) row)
+  -- "14 for a range that ends before it starts or reaches past the whole blocks lent": numbers left over behind them change nothing
+  pub not-inside : (n : ℕ) (r : Range) → (Inside n r → ⊥) ↔ ((r .past < r .first) ⊎ (n < r .past))
+  pub whole-blocks : (blocks : List ℕ) → blockCount blocks ≡ length (shapeOf blocks)
+  pub left-over : (xs zs : List ℕ) (p : TrayPair) {r s : AnswerRecord} → length xs % blockSize ≡ 0 → length zs < blockSize → Judged (xs ++ zs) p r → Judged xs p s → r ≡ s
+  -- "in the pair's record, first range first, both before 1, with the range's number as text and place 0", and nowhere else
+  pub fourteen-first : (blocks : List ℕ) (p : TrayPair) → (Inside (blockCount blocks) (p .x) → ⊥) → Tells refusedRecord (Judged blocks p) (tell 14 1 0)
+  pub fourteen-second : (blocks : List ℕ) (p : TrayPair) → Inside (blockCount blocks) (p .x) → (Inside (blockCount blocks) (p .y) → ⊥)
+      → Tells refusedRecord (Judged blocks p) (tell 14 2 0)
+  pub fourteen-only : (blocks : List ℕ) (p : TrayPair) (q : Refusal) → Judged blocks p (refusedRecord q) → told q .number ≡ 14
+      → Inside (blockCount blocks) (p .x) → Inside (blockCount blocks) (p .y) → ⊥
+  -- then the single call's; an empty range is inside, and has no shape
+  pub then-shapes : (blocks : List ℕ) (p : TrayPair) (t : Told) → Inside (blockCount blocks) (p .x) → Inside (blockCount blocks) (p .y)
+      → PairRefused (lentIn blocks (p .x)) (lentIn blocks (p .y)) t → Tells refusedRecord (Judged blocks p) t
+  pub empty-inside : (n k : ℕ) → k ≤ n → Inside n (range k k)
+  pub empty-refused : (n : ℕ) (blocks : List ℕ) (k : ℕ) → ShapeRefused n (lentIn blocks (range k k)) (tell 1 n 0)
+  -- 15 and 5 are "both for the whole call": neither ever stands in a record
+  pub never-fifteen : (blocks : List ℕ) (p : TrayPair) (q : Refusal) → Judged blocks p (refusedRecord q) → told q .number ≡ 15 → ⊥
+  pub never-five : (blocks : List ℕ) (p : TrayPair) (q : Refusal) → Judged blocks p (refusedRecord q) → told q .number ≡ 5 → ⊥
+  -- "15 for over 64 pairs or a list that is not whole pairs, then 5 for a row shorter than the pairs, both for the whole call, place 0": of text 0
+  pub wrong-list : (listed : ℕ) → (RightList listed → ⊥) ↔ ((listed % pairSize ≡ 0 → ⊥) ⊎ (64 < listed / pairSize))
+  pub fifteen : (blocks pairs : List ℕ) (row row′ : List AnswerRecord) → (RightList (length pairs) → ⊥) → Tells Tray.Refused (SweepTray blocks pairs row row′) (tell 15 0 0)
+  pub then-five : (blocks pairs : List ℕ) (row row′ : List AnswerRecord) → RightList (length pairs) → length row < pairCount pairs
+      → Tells Tray.Refused (SweepTray blocks pairs row row′) (tell 5 0 0)

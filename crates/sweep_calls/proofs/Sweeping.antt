@@ -11,10 +11,11 @@ use Rattle.answers.proofs.Told.{told-one}
 use Rattle.shapes.specs.Lent.{shapeOf}
 use Rattle.pairs.specs.Pair.{PairAccepted}
 use Rattle.pairs.proofs.Pair.{pair-one, pair-not}
-use Rattle.sweep_steps.specs.Steps.{Found, places, cannot, sweepOf}
+use Rattle.sweep_steps.specs.Steps.{sweepOf}
 use Rattle.sweep_passes.specs.Read.{sweptOf, outputOf}
 use Rattle.sweeps.specs.Meaning.{Means}
 use Rattle.sweeps.proofs.Meaning.{means}
+use Rattle.sweeps.proofs.Whole.{not-refused}
 use Rattle.sweep_calls.specs.Sweep.{SweepRefused, SweepDone, SweepPromise}
 use Rattle.sweep_calls.specs.Sweep.SweepRefused.{shapes, output}
 
@@ -29,10 +30,6 @@ module _ (xs ys out : List ℕ) where
         output = o;
         meaning = subst₂ (Means (shapeOf xs) (shapeOf ys)) (sym e) (sym o) (means (shapeOf xs) (shapeOf ys) out);
       }
-
-  not-refused : (f : Found) {r : _} → Refused r ≡ sweptOf f → ⊥
-  not-refused (places qs k) e = let z : _≡_ {A = ℕ} 0 1 = cc in omega arith
-  not-refused (cannot k) e = let z : _≡_ {A = ℕ} 0 1 = cc in omega arith
 
   pub promised : (out′ : List ℕ) (r : Swept) → PairAccepted xs ys → 2 * length (shapeOf xs) ≤ length out → r ≡ sweptOf (sweepOf (shapeOf xs) (shapeOf ys))
       → out′ ≡ outputOf (sweepOf (shapeOf xs) (shapeOf ys)) out → SweepPromise xs ys out out′ r

@@ -5,8 +5,9 @@ use mathlib.Core.List.{List, [], _∷_, _++_}
 use Prim.Native.Nat.{ℕ, suc, _+_, _*_, _≤_}
 use native.Mathlib.Omega.{arith}
 use lib.ListN.{length, getD, take, drop}
-use lib.Seq.{take-at}
+use lib.Seq.{take-at, length-take-le}
 use borrow.Author.Tests.{eq-eqb, ne-eqb}
+use Rattle.answers.specs.declared.Refusal.{Refusal}
 use Rattle.answers.specs.declared.Swept.{Swept}
 use Rattle.shapes.specs.Shape.{Block}
 use Rattle.sweep_steps.specs.Places.{at, isStart}
@@ -16,6 +17,7 @@ use Rattle.sweep_steps.proofs.Looks.{looks-bounded}
 use Rattle.sweep_steps.proofs.Sweep.{places-held}
 use Rattle.sweep_passes.specs.declared.Passed.{Passed}
 use Rattle.sweep_passes.specs.Read.{heldIn, passed, sweptOf, outputOf}
+use Rattle.sweeps.specs.Kept.{Starts}
 
 held-first : (x : List Block) (kept : List ℕ) → 1 ≤ length x → firstPlace (heldIn x kept) ≡ at (getD kept 0 0) (getD kept 1 0)
 unfolding heldIn
@@ -32,9 +34,27 @@ unfolding numbers
 numbers-length [] = refl
 numbers-length (q ∷ qs) = let h = numbers-length qs in omega arith
 
--- what is handed back, once the sweep's answer is known
-pub handed : (r s : Found) (out : List ℕ) → r ≡ s → (sweptOf r ≡ sweptOf s) × (outputOf r out ≡ outputOf s out)
-handed r s out e = (ap sweptOf e, ap (λ (t : Found). outputOf t out) e)
+-- what both passes hand back, once it is known that there are no places
+pub found-none : (l n : ℕ) (kept : List ℕ) (f : Found) → cannot l ≡ f → (Swept.Cannot l ≡ sweptOf f) × Starts f n kept
+found-none l n kept f e = (ap sweptOf e, record { stand = λ qs k h. absurd (not-places (e ∙ h)) })
+  where
+    not-places : {qs : List Place} {k : ℕ} → cannot l ≡ places qs k → ⊥
+    not-places e = let z : _≡_ {A = ℕ} 0 1 = cc in omega arith
+
+-- the output, from what both passes hand back: the places are copied, and else it stays
+pub copied : (f : Found) (k n : ℕ) (kept out : List ℕ) → Swept.Places k ≡ sweptOf f → n ≤ length kept → Starts f n kept → take n kept ++ drop n out ≡ outputOf f out
+copied (places qs l) k n kept out e room starts =
+    let front = starts .stand qs l refl in
+    ap₂ {C = List ℕ} (λ (a : List ℕ) (m : ℕ). a ++ drop m out) front (sym (length-take-le n kept room) ∙ ap length front)
+copied (cannot l) k n kept out e room starts = absurd (let z : _≡_ {A = ℕ} 0 1 = cc in omega arith)
+
+pub stays : (f : Found) (k : ℕ) (out : List ℕ) → Swept.Cannot k ≡ sweptOf f → out ≡ outputOf f out
+stays (places qs l) k out e = absurd (let z : _≡_ {A = ℕ} 0 1 = cc in omega arith)
+stays (cannot l) k out e = refl
+
+pub not-refused : (f : Found) {r : Refusal} → Swept.Refused r ≡ sweptOf f → ⊥
+not-refused (places qs k) e = let z : _≡_ {A = ℕ} 0 1 = cc in omega arith
+not-refused (cannot k) e = let z : _≡_ {A = ℕ} 0 1 = cc in omega arith
 
 module _ (x y : List Block) (kept : List ℕ) (looks : ℕ) (some : 1 ≤ length x) (few : length x ≤ 32) (low : length y ≤ 32)
     (counted : looks ≡ stretches x y .looks) (held : heldIn x kept ≡ stretches x y .held) where
@@ -83,16 +103,17 @@ module _ (x y : List Block) (kept : List ℕ) (looks : ℕ) (some : 1 ≤ length
           let h : looks + more ≤ 2 * (length x + length y) = subst (λ (r : Found). looksOf r ≤ 2 * (length x + length y)) (sym (swept-through e .2)) (looks-bounded x y) in
           omega arith
 
-      -- the places, copied to the output
-      pub swept-places : (e : p ≡ Passed.Through more) (kept' out out' : List ℕ) (n : ℕ) → n ≡ length x
+      -- the places stand where they were kept
+      pub swept-places : (e : p ≡ Passed.Through more) (kept' : List ℕ) (n : ℕ) → n ≡ length x
           → ((qs : List Place) (l : ℕ) → pushes y (heldIn x kept) (at 1 0) ≡ places qs l → kept' ≡ numbers qs ++ drop (2 * n) kept)
-          → out' ≡ take (n * 2) kept' ++ drop (n * 2) out
-          → (Swept.Places (looks + more) ≡ sweptOf (sweepOf x y)) × (out' ≡ outputOf (sweepOf x y) out)
-      swept-places e kept' out out' n en starts copy =
+          → (Swept.Places (looks + more) ≡ sweptOf (sweepOf x y)) × Starts (sweepOf x y) (2 * n) kept'
+      swept-places e kept' n en starts =
           let t = swept-through e in
           let qs = t .0 in
-          let many : length (numbers qs) ≡ n * 2
-          = numbers-length qs ∙ (let a = places-held y (heldIn x kept) (at 1 0) qs more (t .1) in let c = held-length x kept in let g : 2 * length qs ≡ n * 2 = omega arith in g) in
-          let front : take (n * 2) kept' ≡ numbers qs = ap (take (n * 2)) (starts qs more (t .1)) ∙ take-at (numbers qs) (drop (2 * n) kept) (n * 2) many in
-          let h = handed (places qs (looks + more)) (sweepOf x y) out (t .2) in
-          (h .0, copy ∙ ap₂ {C = List ℕ} (λ (a : List ℕ) (m : ℕ). a ++ drop m out) front (sym many) ∙ h .1)
+          let many : length (numbers qs) ≡ 2 * n
+          = numbers-length qs ∙ (let a = places-held y (heldIn x kept) (at 1 0) qs more (t .1) in let c = held-length x kept in let g : 2 * length qs ≡ 2 * n = omega arith in g) in
+          let front : take (2 * n) kept' ≡ numbers qs = ap (take (2 * n)) (starts qs more (t .1)) ∙ take-at (numbers qs) (drop (2 * n) kept) (2 * n) many in
+          (ap sweptOf (t .2), record { stand = λ rs k h. front ∙ ap numbers (same-places (t .2 ∙ h)) })
+        where
+          same-places : {qs rs : List Place} {k l : ℕ} → places qs k ≡ places rs l → qs ≡ rs
+          same-places e = cc

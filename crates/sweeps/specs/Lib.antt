@@ -1,2 +1,3 @@
 -- How the quick sweep's lent numbers and outputs are read.
 pub mod Meaning
+pub mod Kept

@@ -1,0 +1,34 @@
+-- Document 02, order 8: "A pair is four numbers: each range's first block, from 0, and the block past its last."
+use mathlib.Core.List.{List}
+use Prim.Native.Nat.{ℕ, _+_, _-_, _*_, _/_, _≤_}
+use lib.ListN.{length, getD, take, drop}
+use Rattle.shapes.specs.Shape.{blockSize}
+use Rattle.tray_pairs.specs.declared.Pair.{Pair}
+use Rattle.tray_pairs.specs.declared.Range.{Range}
+
+-- So many numbers are a pair; a block's size is another thing.
+abbrev pub pairSize : ℕ
+pairSize = 4
+
+abbrev pub pairCount : List ℕ → ℕ
+pairCount pairs = length pairs / pairSize
+
+-- the blocks from number a on, up to and without number b
+abbrev pub range : ℕ → ℕ → Range
+range a b = record { first = a; past = b }
+
+-- Pair i, from 0, of lent numbers.
+abbrev pub pairAt : List ℕ → ℕ → Pair
+pairAt pairs i = record {
+  x = range (getD pairs (i * pairSize) 0) (getD pairs (i * pairSize + 1) 0);
+  y = range (getD pairs (i * pairSize + 2) 0) (getD pairs (i * pairSize + 3) 0);
+}
+
+-- It does not end before it starts, nor reach past the n whole blocks lent.
+pub record Inside (n : ℕ) (r : Range) : Type 0 where
+  pub forward : r .first ≤ r .past
+  pub within : r .past ≤ n
+
+-- The numbers of its blocks, among those lent.
+abbrev pub lentIn : List ℕ → Range → List ℕ
+lentIn blocks r = take ((r .past - r .first) * blockSize) (drop (r .first * blockSize) blocks)

@@ -1,0 +1,50 @@
+-- One input has one refusal, and none where it is accepted; one answer, and one row. Assumes nothing.
+use mathlib.Core.Path.{_≡_, refl, sym, ap, _∙_, subst}
+use mathlib.Core.List.{List}
+use mathlib.Core.Logic.{_⊎_, inl, inr}
+use Prim.Native.Nat.{ℕ, _+_, _-_, _/_, _≤_, _<_}
+use Rattle.bases.proofs.Plain.{lt-or-le}
+use native.Mathlib.Omega.{arith}
+use lib.ListN.{getD}
+use lib.Seq.{getD-drop, ext-getD}
+use Rattle.answers.specs.Told.{Told}
+use Rattle.answers.specs.declared.AnswerRecord.{AnswerRecord}
+use Rattle.answers.specs.declared.SweepVerdict.{SweepVerdict}
+use Rattle.answers.specs.declared.Tray.{Tray}
+use Rattle.answers.specs.declared.Tray.the-variants.{Judged as is-judged, Refused}
+use Rattle.answers.proofs.Told.{told-one}
+use Rattle.answers.proofs.Turns.{OneOf, turns-one, unless-one}
+use Rattle.tray_pairs.specs.Ranges.{pairSize, pairAt}
+use Rattle.tray_pairs.proofs.Judged.{judged-one}
+use Rattle.trays.specs.Tray.{RightList, TrayRefused, TrayAccepted, Filled, TrayPromise}
+
+module _ {listed room : ℕ} where
+  refusals : OneOf (RightList listed × (listed / pairSize ≤ room)) (TrayRefused listed room)
+  refusals = turns-one unless-one unless-one
+
+  pub tray-refused-one : {t u : Told} → TrayRefused listed room t → TrayRefused listed room u → t ≡ u
+  tray-refused-one p q = refusals .one p q
+
+  pub tray-refused-not : {t : Told} → TrayRefused listed room t → TrayAccepted listed room → ⊥
+  tray-refused-not p a = refusals .not p (a .list, a .row)
+
+-- two rows filled from one
+module _ {blocks pairs : List ℕ} {n : ℕ} {row row′ row″ : List AnswerRecord} (f : Filled blocks pairs n row row′) (g : Filled blocks pairs n row row″) where
+  same-at : (d : AnswerRecord) (i : ℕ) → (i < n) ⊎ (n ≤ i) → getD row′ i d ≡ getD row″ i d
+  same-at d i (inl l) = judged-one blocks (pairAt pairs i) (f .judged i l d) (g .judged i l d)
+  same-at d i (inr h) =
+      let e : n + (i - n) ≡ i = omega arith in
+      subst (λ (k : ℕ). getD row′ k d ≡ getD row″ k d) e
+      (sym (getD-drop n row′ (i - n) d) ∙ ap (λ (l : List AnswerRecord). getD l (i - n) d) (f .others ∙ sym (g .others)) ∙ getD-drop n row″ (i - n) d)
+
+  filled-one : row′ ≡ row″
+  filled-one =
+      let d : AnswerRecord = record { verdict = SweepVerdict.Cannot; looks = 0 } in
+      ext-getD d row′ row″ (f .same-length ∙ sym (g .same-length)) (λ i h. same-at d i (lt-or-le i n))
+
+pub tray-determined : (blocks pairs : List ℕ) (row row′ row″ : List AnswerRecord) (r s : Tray) → TrayPromise blocks pairs row row′ r → TrayPromise blocks pairs row row″ s
+    → (r ≡ s) × (row′ ≡ row″)
+tray-determined blocks pairs row row′ row″ is-judged is-judged p q = (refl, filled-one (p .1) (q .1))
+tray-determined blocks pairs row row′ row″ is-judged (Refused s) p q = absurd (tray-refused-not (q .0) (p .0))
+tray-determined blocks pairs row row′ row″ (Refused r) is-judged p q = absurd (tray-refused-not (p .0) (q .0))
+tray-determined blocks pairs row row′ row″ (Refused r) (Refused s) p q = (ap Refused (told-one r s (tray-refused-one (p .0) (q .0))), p .1 ∙ sym (q .1))

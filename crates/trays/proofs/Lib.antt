@@ -1,0 +1,3 @@
+-- The laws of trays that other crates cite.
+pub mod Filling
+pub mod Determined

@@ -1,0 +1,3 @@
+-- A tray of pairs.
+pub mod Tray
+pub mod Code
