@@ -12,7 +12,7 @@ uint64_t wedgeotter_sweep(const uint64_t *x, size_t n, const uint64_t *y, size_t
 uint64_t wedgeotter_tray(const uint64_t *blocks, size_t n, const uint64_t *pairs, size_t m);
 fitting wedgeotter_fits;
 finding wedgeotter_find;
-narrowing wedgeotter_exact, wedgeotter_padded, wedgeotter_at_most, wedgeotter_before;
+narrowing wedgeotter_exact, wedgeotter_padded, wedgeotter_any_case, wedgeotter_at_most, wedgeotter_before;
 joining wedgeotter_join;
 showing wedgeotter_common;
 running wedgeotter_book;
@@ -38,6 +38,8 @@ static narrowing *const narrow_of[RELATIONS][SIDES] = {
     {wedgeotter_at_most, plain_at_most, rows_at_most},
     {wedgeotter_before, plain_before, rows_before},
 };
+
+static narrowing *const any_case_of[SIDES] = {wedgeotter_any_case, plain_any_case, rows_any_case};
 
 static double now(void) {
     struct timespec t;
@@ -242,12 +244,21 @@ static size_t make_tight(uint64_t *s, const uint64_t *x, size_t n) {
     return 4 * blocks;
 }
 
-// What a random shape stands beside: the next one; a tight one; itself, with fixed counts; the next one, with large bases; where both are fields, one padded otherwise.
-enum pairing { NEXT_ONE, TIGHT, FIXED, LARGE, FIELDS };
+// What a random shape stands beside: the next one; a tight one; itself, with fixed counts; the next one, with large bases; where both are fields, one padded otherwise;
+// the next one, where all letters have both cases, and where each has one or both.
+enum pairing { NEXT_ONE, TIGHT, FIXED, LARGE, FIELDS, BOTH_CASES, SOME_CASES };
 
 // Half of all codes, in the mean, in each base.
 static void enlarge(uint64_t *s, size_t n) {
     for (size_t j = 0; j < n; j += 4) s[j] = rnd(~0ull), s[j + 1] = rnd(~0ull);
+}
+
+// Capitals beside the small letters, or for some of them in their place.
+static void add_capitals(int all, uint64_t *s, size_t n) {
+    for (size_t j = 1; j < n; j += 4) {
+        uint64_t capitals = all ? s[j] >> 32 : s[j] >> 32 & rnd(~0ull);
+        s[j] = (s[j] & ~(all ? 0 : (capitals & rnd(~0ull)) << 32)) | capitals;
+    }
 }
 
 // Makes a shape a field: the blank in half of the bases, and the last quarter of the blocks padding alone.
@@ -276,6 +287,7 @@ static void make_pairs(enum pairing with, size_t blocks, uint64_t most) {
         length[i] = make(shape[i], blocks, most);
         if (with == LARGE) enlarge(shape[i], length[i]);
         if (with == FIELDS) make_field(shape[i], length[i]);
+        if (with == BOTH_CASES || with == SOME_CASES) add_capitals(with == BOTH_CASES, shape[i], length[i]);
         for (size_t j = 0; with == FIXED && j < length[i]; j += 4) shape[i][j + 2] = shape[i][j + 3];
     }
     for (int i = 0; i < SHAPES; i++) {
@@ -404,6 +416,40 @@ static void narrows(const char *size, size_t blocks, uint64_t most, enum pairing
     cut_joins(size);
 }
 
+// Equality but for letter case, in the mean over pairs whose letters all have both cases, so that it makes the passes of equality to the letter and leaves the same: after
+// the ratios to plain C that to our equality to the letter, the greatest of a pair, and how many pairs are not none. Before, the sides are compared on letters of any case.
+static void any_cases(const char *size, size_t blocks, uint64_t most) {
+    uint64_t a[128], b[128], c[128], d[128];
+    int narrow = 0;
+    for (enum pairing with = SOME_CASES; with >= BOTH_CASES; with--) {
+        make_pairs(with, blocks, most);
+        for (int i = 0; i < SHAPES; i++) {
+            memset(a, 0, sizeof a), memset(b, 0, sizeof b);
+            uint64_t some = wedgeotter_any_case(PAIR, a, 128, b, 128);
+            if (with == BOTH_CASES) narrow += some;
+            for (int side = 1; side <= SIDES; side++) {
+                narrowing *as = side < SIDES ? any_case_of[side] : wedgeotter_exact;
+                if (side == SIDES && with == SOME_CASES) continue;
+                memset(c, 0, sizeof c), memset(d, 0, sizeof d);
+                same(some == as(PAIR, c, 128, d, 128) && memcmp(a, c, sizeof a) == 0 && memcmp(b, d, sizeof b) == 0, "equal but for letter case");
+            }
+        }
+    }
+    narrowing *const *const of[2] = {narrow_of[0], any_case_of};
+    static double best[2][SIDES][SHAPES];
+    double means[SIDES], worst = 0;
+    memset(best, 0, sizeof best);
+    TURNS(4)
+        for (int r = 0; r < 2; r++)
+            for (int k = 0; k < SHAPES; k++)
+                for (int side = 0; side < SIDES; side++) TIME(best[r][side][k], k, 1, of[r][side](PAIR, a, 128, b, 128));
+    for (int side = 0; side < SIDES; side++) means[side] = mean(best[1][side]);
+    for (int i = 0; i < SHAPES; i++)
+        if (best[1][0][i] / best[0][0][i] > worst) worst = best[1][0][i] / best[0][0][i];
+    show("equal but for letter case", size, SIDES, means);
+    printf(" %8.2f  %d of %d narrow, at most %.2f\n", means[0] / mean(best[0][0]), narrow, SHAPES, worst);
+}
+
 #define UNTOUCHED 255 // no character, so that bytes past a text show
 
 // The earliest common text of the pairs, in the mean over them; after the ratios to plain C that to our equality to the letter, and how many pairs meet.
@@ -460,12 +506,12 @@ static size_t make_around(uint64_t *s, size_t blocks, uint64_t most, const uint8
 static uint64_t counts[8], entered[1024], rules[64], made;
 static size_t numbers;
 
-static const uint64_t kinds[5] = {3, 0, 1, 2, 4}; // in turn, without joins from the second on
+static const uint64_t kinds[6] = {3, 0, 1, 2, 4, 5}; // in turn, without joins from the second on
 static const int group_of[2][8] = {{0, 0, 0, 0, 1, 1, 1, 1}, {0, 0, 1, 1, 1, 1, 2, 2}};
 
 static int allowed(const int *group, uint64_t kind, uint64_t a, uint64_t b, uint64_t c) {
     if (kind == 3) return group[a] == 1 && group[b] == 0 && group[c] == 2;
-    return a != b && (kind == 0 || kind == 4 ? group[a] == group[b] : kind == 1 ? group[a] <= group[b] : group[a] < group[b]);
+    return a != b && (kind == 0 || kind >= 4 ? group[a] == group[b] : kind == 1 ? group[a] <= group[b] : group[a] < group[b]);
 }
 
 static void make_book(int joins, size_t blocks, uint64_t most) {
@@ -488,7 +534,7 @@ static void make_book(int joins, size_t blocks, uint64_t most) {
             numbers += make_around(entered + numbers, blocks, of[joins][g].most, of[joins][g].text, of[joins][g].length);
         }
         for (int j = 0; j < 16; j++) {
-            uint64_t a, b, c = 0, kind = joins ? kinds[j % 5] : kinds[1 + j % 4];
+            uint64_t a, b, c = 0, kind = joins ? kinds[j % 6] : kinds[1 + j % 5];
             do {
                 a = rnd(8), b = rnd(8);
                 if (kind == 3) c = rnd(8);
@@ -575,7 +621,7 @@ static void books(const char *size, int joins, size_t blocks, uint64_t most) {
 int main(void) {
     puts("Times per call, the least of several turns, in the mean over the inputs: ours is the proved call, bytes plain C with byte tables, rows plain C with rows of bits.");
     puts("After each plain C the ratio of ours to it; for narrowing, joins and common texts then that to our equality to the letter on the same pairs. Least and greatest text");
-    puts("and the sweep have one plain C; a mark is found by rows that are spread to others, and by rows in place as ours; a tray stands beside as many single calls of ours, then a loop in plain C. Equality but for padding makes a second pass on pairs that are none to the letter; the ratio without these follows, and the greatest of a pair.");
+    puts("and the sweep have one plain C; a mark is found by rows that are spread to others, and by rows in place as ours; a tray stands beside as many single calls of ours, then a loop in plain C. Equality but for padding makes a second pass on pairs that are none to the letter; the ratio without these follows, and the greatest of a pair. Equality but for letter case is timed where every base has both cases of its letters.");
     printf("%-52s %12s %12s %6s %12s %6s %8s\n", "", "ours", "bytes", "ratio", "rows", "ratio", "to equal");
     bounds("8 blocks, 40 characters", 8, 40);
     bounds("32 blocks, 250 characters", 32, 250);
@@ -590,6 +636,8 @@ int main(void) {
     narrows("32 blocks, 250 characters", 32, 250, NEXT_ONE);
     narrows("8 blocks, 40, tight", 8, 40, TIGHT);
     narrows("32 blocks, 250, tight", 32, 250, TIGHT);
+    any_cases("8 blocks, 40 characters", 8, 40);
+    any_cases("32 blocks, 250 characters", 32, 250);
     narrows("8 blocks, 40, padded fields", 8, 40, FIELDS);
     narrows("32 blocks, 250, padded fields", 32, 250, FIELDS);
     books("8 blocks, 40 characters", 0, 8, 40);

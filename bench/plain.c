@@ -450,7 +450,32 @@ uint64_t plain_before(const uint64_t *x, size_t nx, const uint64_t *y, size_t ny
     return order(1, x, nx, y, ny, t, w, ox, a, oy, b);
 }
 
+// A shape with both cases of each letter: A to Z are the bits 1 to 26 of a base's second word, a to z the bits 33 to 58.
+static void add_cases(const uint64_t *s, size_t n, uint64_t *wide) {
+    memcpy(wide, s, n * sizeof *wide);
+    for (size_t j = 1; j < n; j += 4) wide[j] |= (s[j] >> 32 & 0x7fffffe) | (s[j] & 0x7fffffe) << 32;
+}
+
+static void cut_bases(const uint64_t *s, size_t n, uint64_t *out) {
+    for (size_t j = 0; j < n; j += 4) out[j] &= s[j], out[j + 1] &= s[j + 1];
+}
+
+// Equality but for letter case of checked shapes: to the letter with both cases, and what is left in the cases that the shapes have.
+uint64_t run_any_case(narrowing_by_kind *narrow, const uint64_t *x, size_t nx, const uint64_t *y, size_t ny, uint8_t *t, uint64_t *ox, uint64_t *oy) {
+    uint64_t wide_x[128], wide_y[128];
+    add_cases(x, nx, wide_x), add_cases(y, ny, wide_y);
+    uint64_t some = narrow(4, wide_x, nx, wide_y, ny, t, ox, oy);
+    if (some) cut_bases(x, nx, ox), cut_bases(y, ny, oy);
+    return some;
+}
+
+uint64_t plain_any_case(const uint64_t *x, size_t nx, const uint64_t *y, size_t ny, uint8_t *t, size_t w, uint64_t *ox, size_t a, uint64_t *oy, size_t b) {
+    if (!plain_check(x, nx) || !plain_check(y, ny) || w < 63001 || a < nx || b < ny) return 1000;
+    return run_any_case(plain_by_kind, x, nx, y, ny, t, ox, oy);
+}
+
 uint64_t plain_by_kind(uint64_t kind, const uint64_t *x, size_t nx, const uint64_t *y, size_t ny, uint8_t *t, uint64_t *ox, uint64_t *oy) {
+    if (kind == 5) return run_any_case(plain_by_kind, x, nx, y, ny, t, ox, oy);
     if (kind == 0 || kind == 4) return equal(kind == 0 ? BLANK : NOTHING, x, nx, y, ny, t, ox, oy);
     return order(kind == 2, x, nx, y, ny, t, 63001, ox, nx, oy, ny);
 }
@@ -490,7 +515,7 @@ struct refusal plain_check_book(const uint64_t *counts, size_t texts, const uint
     }
     for (size_t j = 0; j < nr; j += 4) {
         uint64_t kind = rules[j], a = rules[j + 1], b = rules[j + 2], c = rules[j + 3];
-        int right = kind <= 4 && a >= 1 && a <= texts && b >= 1 && b <= texts && a != b;
+        int right = kind <= 5 && a >= 1 && a <= texts && b >= 1 && b <= texts && a != b;
         if (!right || (kind == 3 ? c < 1 || c > texts || c == a || c == b : c != 0)) return (struct refusal){7, 0, j / 4 + 1};
         if (kind == 3 && total[b - 1] + total[c - 1] > 250) return (struct refusal){12, 0, j / 4 + 1};
     }

@@ -20,7 +20,7 @@ extreme plain_least, plain_greatest; // the text's length, 1000 for a refusal
 uint64_t plain_sweep(const uint64_t *x, size_t nx, const uint64_t *y, size_t ny, uint64_t *out, size_t k);
 fitting plain_fits, rows_fits;
 finding spread_find, rows_find; // greatest index, 1000 times the least, 1000000 where some text lacks the mark; 0 for nowhere, 1000 for a refusal
-narrowing plain_exact, plain_padded, plain_at_most, plain_before, rows_exact, rows_padded, rows_at_most, rows_before;
+narrowing plain_exact, plain_padded, plain_any_case, plain_at_most, plain_before, rows_exact, rows_padded, rows_any_case, rows_at_most, rows_before;
 joining plain_join, rows_join;
 showing plain_common, rows_common; // the text's length, 1000 for a refusal, 2000 for none
 running plain_book, rows_book;
@@ -53,6 +53,7 @@ struct refusal plain_check_book(const uint64_t *counts, size_t texts, const uint
 // Kinds 0, 1, 2 and 4; under an equality x may have up to 64 blocks.
 typedef uint64_t narrowing_by_kind(uint64_t kind, const uint64_t *x, size_t nx, const uint64_t *y, size_t ny, uint8_t *t, uint64_t *ox, uint64_t *oy);
 narrowing_by_kind plain_by_kind;
+uint64_t run_any_case(narrowing_by_kind *narrow, const uint64_t *x, size_t nx, const uint64_t *y, size_t ny, uint8_t *t, uint64_t *ox, uint64_t *oy);
 uint64_t run_join(narrowing_by_kind *narrow, const uint64_t *x, size_t nx, const uint64_t *y, size_t ny, const uint64_t *z, size_t nz, uint8_t *t, uint64_t *ox, uint64_t *oy, uint64_t *oz);
 uint64_t run_rounds(narrowing_by_kind *narrow, const uint64_t *counts, size_t texts, uint64_t *blocks, size_t nb, const uint64_t *rules, size_t nr, uint8_t *t);
 uint64_t run_book(narrowing_by_kind *narrow, const uint64_t *counts, size_t texts, uint64_t *blocks, size_t nb, const uint64_t *rules, size_t nr, uint8_t *t, size_t w);

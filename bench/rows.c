@@ -603,6 +603,7 @@ static uint64_t narrow_order(int strict, const uint64_t *x, size_t nx, const uin
 
 static uint64_t by_kind(uint64_t kind, const uint64_t *x, size_t nx, const uint64_t *y, size_t ny, uint8_t *t, uint64_t *ox, uint64_t *oy) {
     (void)t; // the rows stand on the stack
+    if (kind == 5) return run_any_case(by_kind, x, nx, y, ny, t, ox, oy);
     if (kind == 0 || kind == 4) return narrow_equal(kind == 0 ? BLANK : NOTHING, x, nx, y, ny, ox, oy);
     return narrow_order(kind == 2, x, nx, y, ny, ox, oy);
 }
@@ -620,6 +621,10 @@ uint64_t rows_exact(const uint64_t *x, size_t nx, const uint64_t *y, size_t ny, 
 
 uint64_t rows_padded(const uint64_t *x, size_t nx, const uint64_t *y, size_t ny, uint8_t *t, size_t w, uint64_t *ox, size_t a, uint64_t *oy, size_t b) {
     return narrow(0, x, nx, y, ny, t, w, ox, a, oy, b);
+}
+
+uint64_t rows_any_case(const uint64_t *x, size_t nx, const uint64_t *y, size_t ny, uint8_t *t, size_t w, uint64_t *ox, size_t a, uint64_t *oy, size_t b) {
+    return narrow(5, x, nx, y, ny, t, w, ox, a, oy, b);
 }
 
 uint64_t rows_at_most(const uint64_t *x, size_t nx, const uint64_t *y, size_t ny, uint8_t *t, size_t w, uint64_t *ox, size_t a, uint64_t *oy, size_t b) {

@@ -33,7 +33,7 @@ extern "C" {
      -11   a block has no characters and a greatest count above 0, or characters and the greatest count 0
       -3   the greatest counts of a text add to more than 250; tried once all its blocks are right
            then rule by rule:
-      -7   a rule's kind is not 0, 1, 2, 3 or 4, it names a text that is not there, or one text twice, or its kind is not 3 and its
+      -7   a rule's kind is not 0, 1, 2, 3, 4 or 5, it names a text that is not there, or one text twice, or its kind is not 3 and its
            fourth number not 0
      -12   a rule of kind 3 joins two texts whose greatest counts add to more than 250
            and at last:

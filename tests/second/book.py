@@ -3,12 +3,15 @@
 from itertools import permutations, product
 
 from making import (
-    ONE_EACH, TWO_BAD, Dice, block, carved, counted, hexes, hold_numbers_to_room, large_shape, lists_read, many_blocks,
-    numbers_read, padded_anew, random_filling, random_text, shared_out, small_blocks, unsound_blocks, words_of, written,
+    CASE_ALPHABETS, ONE_EACH, TWO_BAD, Dice, block, carved, counted, hexes, hold_numbers_to_room, large_shape,
+    lists_read, many_blocks, numbers_read, padded_anew, random_filling, random_text, recased, shared_out, small_blocks,
+    unsound_blocks, words_of, written,
 )
 from joins import JOIN, narrowed_join
 from narrow import LONGEST_WORK, TOGETHER, work_shown
-from pairs import AT_MOST, BEFORE, EQUAL, EQUALITIES, EXACT, HOLDS, KINDS, narrowed
+from pairs import (
+    ANY_CASE, AT_MOST, BEFORE, CASED_EQUALITIES, CASED_KINDS, EQUAL, EQUALITIES, EXACT, HOLDS, KINDS, narrowed,
+)
 from shapes import BLANK, MOST_BLOCKS, WORK_WANTED, Refused, agree, all_texts, fillings, shape_of, too_long, total
 
 MOST_TEXTS = 8
@@ -164,7 +167,7 @@ def hold_run_to_answer(what, texts, rules, final, applications):
 
 
 def hold_to_example():
-    """Document 01's book, in which both equalities are the same."""
+    """Document 01's book, in which all equalities are the same."""
     for kind in EQUALITIES:
         hold_run_to_answer("document 01's book", ["{a,b,c}0..3", "{b,c,d}2..2"], [(kind, 1, 2)], ["{b,c}2..2"] * 2, 2)
 
@@ -341,8 +344,8 @@ def join_book(dice, tiny=False):
         rules.append((JOIN, len(stems), front, back))
     for _ in range(dice.below(3)):
         one, other = two_of(dice, len(stems))
-        kinds = [kind for kind in KINDS if HOLDS[kind](stems[one - 1], stems[other - 1])]
-        rules.append((dice.pick(kinds if kept and kinds else KINDS), one, other))
+        kinds = [kind for kind in CASED_KINDS if HOLDS[kind](stems[one - 1], stems[other - 1])]
+        rules.append((dice.pick(kinds if kept and kinds else CASED_KINDS), one, other))
     # The texts are numbered by chance.
     places = shuffled(dice, range(len(stems)))
     texts = [[]] * len(stems)
@@ -385,7 +388,7 @@ def random_book(dice):
     for _ in range(dice.pick((1, 2, 3, 4, 6, 9, 16)) if count > 1 else 0):
         one = dice.between(1, count)
         other = (one - 1 + dice.between(1, count - 1)) % count + 1
-        kind = dice.pick(KINDS)
+        kind = dice.pick(CASED_KINDS)
         if kept and not HOLDS[kind](stems[one - 1], stems[other - 1]):
             one, other = other, one
             if not HOLDS[kind](stems[one - 1], stems[other - 1]):
@@ -394,20 +397,23 @@ def random_book(dice):
     return texts, rules
 
 
-def wide_book(dice):
+WIDE_ALPHABETS = ((0, 1), (0, 1), (31, BLANK), (BLANK, 33))
+
+
+def wide_book(dice, alphabets=WIDE_ALPHABETS, kinds=CASED_KINDS, equalities=CASED_EQUALITIES):
     """Wide texts in a chain, sometimes closed to a cycle, the rules in any order: each round takes little away."""
     count = dice.between(2, 6)
-    low, high = dice.pick(((0, 1), (0, 1), (31, BLANK), (BLANK, 33)))
+    low, high = dice.pick(alphabets)
     texts = []
     for _ in range(count):
         text = block(dice.pick(([low], [low], [low, high], [high])), 0, dice.between(1, 6))
         texts.append(text + block([dice.pick((low, high))], 0, dice.between(1, 3)) if dice.below(3) == 0 else text)
     rules = [(dice.pick((AT_MOST, BEFORE, BEFORE)), text, text + 1) for text in range(1, count)]
     if dice.below(2):
-        rules.append((dice.pick(KINDS), count, 1))
+        rules.append((dice.pick(kinds), count, 1))
     if dice.below(3) == 0:
         one = dice.between(1, count)
-        rules.append((dice.pick(EQUALITIES), one, one % count + 1))
+        rules.append((dice.pick(equalities), one, one % count + 1))
     return texts, shuffled(dice, rules)
 
 
@@ -434,7 +440,7 @@ def large_cases(cases):
         codes, words = large_shape(dice)
         text = random_filling(dice, shape_of(words))
         texts = [words] + [carved(dice, codes, text, dice.pick((2, 8, 32))) for _ in range(count - 1)]
-        rules = [(dice.pick((*EQUALITIES, AT_MOST)), number, number + 1) for number in range(1, count)]
+        rules = [(dice.pick((*CASED_EQUALITIES, AT_MOST)), number, number + 1) for number in range(1, count)]
         cases.book(texts, rules)
         cases.book(texts, rules[::-1])
     # Long texts with blanks, equal but for those at the end.
@@ -548,17 +554,17 @@ def shape_cases(cases):
 
 
 def rule_cases(cases):
-    """Wrong rules (7), the first of them named, before the work buffer."""
+    """Wrong rules (7), the first of them named, before the work buffer. Of those asked the second one is right."""
     texts = [block([0], 0, 3), block([0, 1], 1, 2), block([1], 0, 4)]
     good = (AT_MOST, 1, 2)
-    wrong = [(3, 1, 2), (5, 1, 2), (EQUAL, 0, 1), (EQUAL, 1, 0), (EQUAL, 4, 1), (EQUAL, 1, 4), (EQUAL, 0, 0)]
-    wrong += [(kind, text, text) for kind in KINDS for text in (1, 2, 3)]
-    wrong += [(far, 1, 2) for far in FAR] + [(0, far, 2) for far in FAR] + [(0, 1, far) for far in FAR]
+    asked = [(3, 1, 2), (ANY_CASE, 1, 2), (EQUAL, 0, 1), (EQUAL, 1, 0), (EQUAL, 4, 1), (EQUAL, 1, 4), (EQUAL, 0, 0)]
+    asked += [(kind, text, text) for kind in KINDS for text in (1, 2, 3)]
+    asked += [(far, 1, 2) for far in FAR] + [(0, far, 2) for far in FAR] + [(0, 1, far) for far in FAR]
     for far in FAR[:-1]:
-        wrong += [(far + 1, 1, 2), (far + 4, 1, 2), (0, far + 1, 2), (2, 1, far + 2), (4, far + 2, 1)]
-    wrong += [(0, far, far) for far in FAR]
-    wrong += [(EXACT, 0, 1), (EXACT, 1, 0), (EXACT, 4, 1), (EXACT, 1, 4)]
-    for rule in wrong:
+        asked += [(far + 1, 1, 2), (far + 4, 1, 2), (0, far + 1, 2), (2, 1, far + 2), (4, far + 2, 1)]
+    asked += [(0, far, far) for far in FAR]
+    asked += [(EXACT, 0, 1), (EXACT, 1, 0), (EXACT, 4, 1), (EXACT, 1, 4)]
+    for rule in asked:
         cases.book(texts, [rule])
         cases.book(texts, [good, rule, rule], WORK_WANTED - 1)
         cases.book(texts, [good] * 15 + [rule])
@@ -574,28 +580,29 @@ def rule_cases(cases):
     cases.book(texts, [good], 0)
 
 
-def wrong_joins():
-    """Joins and other rules that are wrong by their fourth number, or by a join's texts, in a book of four texts."""
+def asked_joins():
+    """Joins and other rules that are wrong by their fourth number, or by a join's texts, in a book of four texts; and
+    one that is right, before the kinds that are none."""
     joins = [(JOIN, *texts) for texts in product(range(4), repeat=3) if 0 in texts or len({*texts}) < 3]
     yield from (rule for at, rule in enumerate(joins) if at % 3 == 0)
     yield from ((JOIN, 5, 1, 2), (JOIN, 1, 5, 2), (JOIN, 1, 2, 5), (JOIN, 1, 2, 9), (JOIN, 5, 5, 5))
     for far in FAR:
         yield from ((JOIN, 1, 2, far), (JOIN, 1, far, 2), (JOIN, far, 1, 2), (JOIN, far, far, far))
-        yield from ((kind, 1, 2, far) for kind in KINDS)
+        yield from ((kind, 1, 2, far) for kind in CASED_KINDS)
     # What a narrower number would take for 3, for 4, or for a text.
     for far in FAR[:-1]:
         yield from ((JOIN, 1, 2, far + 3), (JOIN, 1, far + 2, 3), (far + 3, 1, 2, 3), (far + 3, 1, 2, 0))
-        yield from ((far + 4, 1, 2, 0), (EXACT, 1, 2, far + 4), (5, 1, 2, far), (far + 5, far, far, 0))
-    for kind in (*KINDS, 5, 6, 7):
+        yield from ((far + 4, 1, 2, 0), (EXACT, 1, 2, far + 4), (ANY_CASE, 1, 2, far), (far + 5, far, far, 0))
+    for kind in (*KINDS, 6, 7):
         yield from ((kind, 1, 2, fourth) for fourth in (1, 2, 3, 4, 5, 9))
-    yield from ((5, 1, 2, 0), (6, 1, 2, 0), (7, 1, 2, 0), (8, 1, 2, 0), (2**64 - 1, 2**64 - 1, 2**64 - 1, 2**64 - 1))
+    yield from ((ANY_CASE, 1, 2, 0), (6, 1, 2, 0), (7, 1, 2, 0), (8, 1, 2, 0), (2**64 - 1,) * RULE_SIZE)
 
 
 def join_rule_cases(cases):
     """Wrong joins (7), and texts too long to be joined (12), which is tried right after 7 for each rule."""
     texts = [block([0], 0, 3), block([0, 1], 1, 2), block([1], 0, 4), block([0], 0, 1)]
     good = (JOIN, 1, 2, 3)
-    for at, rule in enumerate(wrong_joins()):
+    for at, rule in enumerate(asked_joins()):
         cases.book(texts, [rule], WORK_WANTED if at % 2 else 0)
         if at % 3 == 0:
             cases.book(texts, [good] * (at % 15) + [(AT_MOST, 1, 2), rule])
@@ -618,7 +625,7 @@ def join_rule_cases(cases):
     for rules in (
         [over, wrong], [wrong, over], [over, over], [(JOIN, 1, 4, 2), over, wrong], [(EQUAL, 1, 2, 3)],
         [(JOIN, 2, 2, 3)], [(JOIN, 2, 3, 3)], [(EXACT, 1, 2, 3)], [(JOIN, 0, 2, 3), over], [(JOIN, 5, 2, 3)],
-        [(5, 1, 2, 3)], [(EXACT, 1, 4), over], [over, (5, 1, 2)],
+        [(ANY_CASE, 1, 2, 3)], [(EXACT, 1, 4), over], [over, (ANY_CASE, 1, 2)],
         [(EQUAL, 1, 1), over], [over, (EQUAL, 1, 1)], [(JOIN, 4, 1, 2), (JOIN, 4, 3, 2), (7, 7, 7, 7)],
     ):
         for work in (WORK_WANTED, WORK_WANTED - 1):
@@ -639,6 +646,124 @@ def join_rule_cases(cases):
     cases.lent([1] * 4, [word for text in long for word in text], [3, 1, 2, 3] * 16)
 
 
+# A rule of each kind, and all texts that they name but the last.
+NEWTON, EITHER, CAPITALS = "N1..1 m1..1", "{N,n}1..1 {M,m}1..1", "N1..1 M1..1"
+FIELD = CAPITALS + " { }3..3"
+EACH_KIND = [(JOIN, 1, 2, 3), (ANY_CASE, 3, 4), (EXACT, 4, 5), (EQUAL, 5, 6), (AT_MOST, 2, 7), (BEFORE, 7, 8)]
+THEIR_TEXTS = ["{0..9,A..Z,a..z}2..9", "{3..9}1..1", EITHER, "{A..Z}2..4", "{L..N}1..3", FIELD, "{4..6}1..1"]
+
+# Books with letters in both cases: texts, rules, the texts at the end and the applications, as they are found by hand.
+CASED = (
+    ([NEWTON, "{A..Z}2..2"], [(ANY_CASE, 1, 2)], [NEWTON, "{M,N}2..2"], 2),
+    ([NEWTON, "{A..Z}2..2"], [(EXACT, 1, 2)], None, 1),
+    ([NEWTON, "{A..Z}2..2"], [(EQUAL, 1, 2)], None, 1),
+    (["{@,A}1..1", "{`,a}1..1"], [(ANY_CASE, 1, 2)], ["A1..1", "a1..1"], 2),
+    # Each text keeps its own case; exactly equal, it takes the other's.
+    ([NEWTON, EITHER, CAPITALS], [(ANY_CASE, 1, 2), (ANY_CASE, 2, 3)], [NEWTON, EITHER, CAPITALS], 2),
+    ([NEWTON, EITHER, CAPITALS], [(ANY_CASE, 1, 2), (EXACT, 2, 3)], [NEWTON, CAPITALS, CAPITALS], 4),
+    (["N1..1", "n1..1", "{N,n}1..1"], [(ANY_CASE, 1, 2), (ANY_CASE, 2, 3), (ANY_CASE, 3, 1)],
+     ["N1..1", "n1..1", "{N,n}1..1"], 3),
+    (["N1..1", "n1..1", "{N,n}1..1"], [(ANY_CASE, 1, 2), (ANY_CASE, 2, 3), (EXACT, 3, 1)],
+     ["N1..1", "n1..1", "N1..1"], 6),
+    (["N1..1", "{m,n}1..1", "M1..1"], [(ANY_CASE, 1, 2), (ANY_CASE, 2, 3)], None, 2),
+    (["{N,n}1..1", "n1..1"], [(ANY_CASE, 1, 2), (EXACT, 1, 2)], ["n1..1", "n1..1"], 4),
+    # Padding counts, unless another rule says that it does not.
+    (["N1..1 { }1..1", "n1..1"], [(ANY_CASE, 1, 2)], None, 1),
+    (["n1..1 { }2..2", "{N,n}1..1", "{M..O}1..1"], [(EQUAL, 1, 2), (ANY_CASE, 2, 3)],
+     ["n1..1 { }2..2", "n1..1", "N1..1"], 4),
+    (["n1..1 { }0..2", "{N,n}1..1 { }1..9"], [(EQUAL, 1, 2), (ANY_CASE, 1, 2)],
+     ["n1..1 { }1..2", "n1..1 { }1..2"], 4),
+    # A text can come before another that it equals in any case; exactly equal it cannot.
+    (["{N,n}1..1"] * 2, [(ANY_CASE, 1, 2), (BEFORE, 1, 2)], ["N1..1", "n1..1"], 4),
+    (["{N,n}1..1"] * 2, [(EXACT, 1, 2), (BEFORE, 1, 2)], None, 3),
+    (["{N,n}1..1"] * 2, [(ANY_CASE, 1, 2), (BEFORE, 1, 2), (BEFORE, 2, 1)], None, 3),
+    (["{A,a}0..2"] * 2, [(ANY_CASE, 1, 2), (AT_MOST, 2, 1)], ["{A,a}0..2"] * 2, 2),
+    (["{A,a}2..2", "a2..2"], [(ANY_CASE, 1, 2), (BEFORE, 1, 2)], ["{A,a}2..2", "a2..2"], 2),
+    (["N0..5", "n0..5"], [(ANY_CASE, 1, 2), (BEFORE, 1, 2)], ["N1..5", "n1..5"], 6),
+    (["N0..5", "n0..5"], [(ANY_CASE, 1, 2), (BEFORE, 2, 1)], None, 3),
+    # A unit joined to its number.
+    (["{0..9,A..Z}3..3", "{0..9}1..2", EITHER, "n1..1 m1..1"], [(JOIN, 1, 2, 3), (ANY_CASE, 3, 4)],
+     ["{0..9,M,N}3..3", "{0..9}1..1", CAPITALS, "n1..1 m1..1"], 4),
+    (["{0..9,A..Z}3..3", "{0..9}1..2", EITHER, "n1..1 m1..1"], [(JOIN, 1, 2, 3), (EXACT, 3, 4)], None, 2),
+    # Every kind at once.
+    ([*THEIR_TEXTS, "51..1"], EACH_KIND,
+     ["{3,4,M,N,m,n}3..3", "{3,4}1..1", EITHER, "{M,N}2..2", "{M,N}2..2", FIELD, "41..1", "51..1"], 24),
+    ([*THEIR_TEXTS, "41..1"], EACH_KIND, None, 6),
+)
+
+
+def any_case_cases(cases):
+    for texts, rules, final, applications in CASED:
+        hold_run_to_answer("letters in both cases, found by hand", texts, rules, final, applications)
+        texts = [written(text) for text in texts]
+        every_order(cases, texts, rules)
+        shapes, fours = [shape_of(text) for text in texts], [four(rule) for rule in rules]
+        end = run(shapes, fours)[0]
+        for order in permutations(fours):
+            agree("the order of rules", (shapes, fours), run(shapes, list(order))[0], end)
+    # As long as may be, and the most blocks.
+    texts = ["N250..250", "n0..250", "{N,n}0..125 N0..125", "N0..7 " * 31 + "n0..33"]
+    for rules in ([(ANY_CASE, 1, 2), (ANY_CASE, 2, 3)], [(ANY_CASE, 3, 4), (EXACT, 2, 3), (ANY_CASE, 4, 1)]):
+        every_order(cases, [written(text) for text in texts], rules)
+    for work in (0, WORK_WANTED - 1, WORK_WANTED, WORK_WANTED + 1, LONGEST_WORK):
+        cases.book([written(NEWTON), written("{A..Z}2..2")], [(ANY_CASE, 1, 2)], work)
+        cases.book([written(NEWTON), written("n1..1")], [(ANY_CASE, 1, 2)], work)
+
+
+def any_case_rule_cases(cases):
+    """Kind 5 is right where kind 4 is, and wrong (7) where it is; kinds 6 and up are wrong."""
+    texts = [written("{N,n}0..3"), written("n1..1 N0..1"), written("N0..4")]
+    good = (ANY_CASE, 1, 2)
+    wrong = [(ANY_CASE, 1, 1), (ANY_CASE, 0, 1), (ANY_CASE, 1, 0), (ANY_CASE, 4, 1), (ANY_CASE, 1, 4), (6, 1, 2)]
+    wrong += [(ANY_CASE, 1, 2, fourth) for fourth in (1, 2, 3, 4, 5, *FAR)]
+    wrong += [(far + 5, 1, 2) for far in FAR[:-1]] + [(ANY_CASE, far + 1, 2) for far in FAR[:-1]]
+    for at, rule in enumerate(wrong):
+        cases.book(texts, [rule], WORK_WANTED - at % 2)
+        cases.book(texts, [good] * (at % 16) + [rule])
+    cases.book(texts, [good] * MOST_RULES)
+    cases.book(texts, [good] * (MOST_RULES - 1) + [(6, 1, 2)])
+    # It is right, so that what is behind it decides; it does not ask how long its texts are.
+    long = [written(text) for text in ("N0..3", "n0..126", "{N,n}0..125")]
+    cases.book(long, [(ANY_CASE, 2, 3)])
+    cases.book(long, [(ANY_CASE, 2, 3), (JOIN, 1, 2, 3)])
+    cases.book(long, [(ANY_CASE, 2, 3), (7, 2, 3)])
+
+
+def any_case_book(dice):
+    """Texts over one alphabet, one of them in several spellings, and rules of every kind, most of which are kept."""
+    codes = dice.pick(CASE_ALPHABETS)
+    stem = random_text(dice, codes, dice.between(1, 3))
+    stems = [recased(dice, stem) for _ in range(dice.between(2, 4))]
+    rules = []
+    if dice.below(3) == 0:
+        front, back = two_of(dice, len(stems))
+        stems.append(stems[front - 1] + stems[back - 1])
+        rules.append((JOIN, len(stems), front, back))
+    for _ in range(dice.pick((1, 2, 3, 4, 6))):
+        one, other = two_of(dice, len(stems))
+        kinds = [kind for kind in KINDS if HOLDS[kind](stems[one - 1], stems[other - 1])]
+        rules.append((dice.pick(kinds if kinds and dice.below(8) else KINDS), one, other))
+    return [carved(dice, codes, stem, dice.between(1, 3)) for stem in stems], shuffled(dice, rules)
+
+
+def any_case_random_cases(cases):
+    dice = Dice(34)
+    for number in range(56):
+        if number % 7 < 2:
+            texts, rules = wide_book(dice, (b"Aa", b"Nn", b"@A", b"Zz"), (ANY_CASE,), (ANY_CASE,))
+        else:
+            texts, rules = any_case_book(dice)
+        cases.book(texts, rules)
+        if number % 4 == 0 and len(rules) > 1:
+            cases.book(texts, shuffled(dice, rules))
+    for _ in range(2):
+        codes, words = large_shape(dice, (b"Aa", b" MNmn"))
+        text = random_filling(dice, shape_of(words))
+        texts = [words] + [carved(dice, codes, recased(dice, text), dice.pick((8, 32))) for _ in range(3)]
+        cases.book(texts, [(ANY_CASE, 1, 2), (ANY_CASE, 3, 4), (ANY_CASE, 2, 3)])
+        cases.book(texts, [(ANY_CASE, 1, 2), (ANY_CASE, 1, 3), (EXACT, 2, 3), (AT_MOST, 1, 4)])
+
+
 def all_cases():
     hold_to_example()
     cases = Cases()
@@ -653,6 +778,9 @@ def all_cases():
     join_rule_cases(cases)
     random_join_cases(cases)
     large_cases(cases)
+    any_case_cases(cases)
+    any_case_rule_cases(cases)
+    any_case_random_cases(cases)
     return cases.lines
 
 

@@ -9,15 +9,15 @@ from itertools import product
 from pathlib import Path
 
 from book import (
-    MOST_RULES, MOST_TEXTS, PADDED, RULE_SIZE, SERIAL, book_of, four, hold_to_laws, join_book, random_book, run,
-    shuffled, wide_book,
+    CASED, MOST_RULES, MOST_TEXTS, PADDED, RULE_SIZE, SERIAL, any_case_book, book_of, four, hold_to_laws, join_book,
+    random_book, run, shuffled, wide_book,
 )
 from joins import JOIN
 from making import (
     ONE_EACH, TWO_BAD, Dice, block, hold_lines_to_room, many_blocks, unsound_blocks, words_of, written,
 )
 from narrow import TOGETHER, by_turns
-from pairs import AT_MOST, BEFORE, EQUAL, EQUALITIES, EXACT
+from pairs import ANY_CASE, AT_MOST, BEFORE, CASED_EQUALITIES, EQUAL, EXACT
 from shapes import MOST_BLOCKS, Refused, agree, total
 
 MOST_BYTES = 16_384
@@ -456,8 +456,9 @@ def shape_cases(cases):
         cases.book(texts, [])
 
 
-WRONG_RULES = (
-    (3, 1, 2), (5, 1, 2), (MOST_NUMBER, 1, 2), (256, 1, 2), (EQUAL, 0, 1), (AT_MOST, 1, 0), (BEFORE, 0, 0),
+# All wrong but the second.
+ASKED_RULES = (
+    (3, 1, 2), (ANY_CASE, 1, 2), (MOST_NUMBER, 1, 2), (256, 1, 2), (EQUAL, 0, 1), (AT_MOST, 1, 0), (BEFORE, 0, 0),
     (EQUAL, 3, 1), (AT_MOST, 1, 3), (BEFORE, 3, 3), (EQUAL, MOST_NUMBER, 1), (BEFORE, 2, MOST_NUMBER),
     (EQUAL, 257, 2), (EQUAL, 1, 258), (EQUAL, 1, 1), (AT_MOST, 2, 2), (BEFORE, 1, 1), (EXACT, 0, 1), (EXACT, 1, 3),
     (EXACT, 1, 1), (260, 1, 2), (6, 1, 2), (8, 1, 2),
@@ -467,11 +468,11 @@ WRONG_RULES = (
 def rule_cases(cases):
     """Wrong rules (7), the first of them named."""
     texts = [GOOD, block(b"b", 1, 2)]
-    for rule in WRONG_RULES:
+    for rule in ASKED_RULES:
         cases.book(texts, [rule])
         cases.book(texts, [(AT_MOST, 1, 2), rule, (7, 7, 7)])
     for place in range(1, MOST_RULES + 1):
-        rule = WRONG_RULES[place % len(WRONG_RULES)]
+        rule = ASKED_RULES[place % len(ASKED_RULES)]
         cases.book(texts, [(AT_MOST, 1, 2)] * (place - 1) + [rule] + [(7, 1, 2)] * (MOST_RULES - place))
         cases.book(texts, [(by_turns(place), 2, 1)] * (place - 1) + [(EQUAL, 2, 2)])
     # A rule is wrong even behind one that says none.
@@ -491,8 +492,8 @@ WRONG_JOINS = (
     (JOIN, 1, 2, 0), (JOIN, 1, 2, 4), (JOIN, 1, 2, 9), (JOIN, 1, 2, MOST_NUMBER), (JOIN, 1, 2, 259), (JOIN, 1, 2, 1),
     (JOIN, 1, 2, 2), (JOIN, 1, 1, 2), (JOIN, 3, 3, 3), (JOIN, 0, 2, 3), (JOIN, 1, 0, 3), (JOIN, 4, 2, 3),
     (JOIN, 1, 4, 3), (EQUAL, 1, 2, 1), (EQUAL, 1, 2, 3), (AT_MOST, 1, 2, 3), (BEFORE, 1, 2, 3), (EQUAL, 1, 2, 256),
-    (BEFORE, 1, 2, MOST_NUMBER), (EXACT, 1, 2, 1), (EXACT, 1, 2, 3), (EXACT, 1, 2, 260), (5, 1, 2, 3), (259, 1, 2, 3),
-    (MOST_NUMBER, 1, 2, 3),
+    (BEFORE, 1, 2, MOST_NUMBER), (EXACT, 1, 2, 1), (EXACT, 1, 2, 3), (EXACT, 1, 2, 260), (ANY_CASE, 1, 2, 3),
+    (259, 1, 2, 3), (MOST_NUMBER, 1, 2, 3),
 )
 
 
@@ -541,15 +542,37 @@ def join_cases(cases):
 
 
 def padded_cases(cases):
-    """Padded fields: the books of which the answer is found by hand, and the two equalities in one small book."""
+    """Padded fields: the books of which the answer is found by hand, and two equalities in one small book."""
     for texts, rules, _, _ in PADDED:
         cases.book([written(text) for text in texts], rules)
     for kind in (b"0", b"1", b"2", b"3", b"4", b"5", b"04", b"4.", b"-4", b"40", b""):
         cases.file(EXAMPLE.replace(b"0 1 2 0\n", kind + b" 1 2 0\n"))
     # The rule of document 01's book, its texts padded by turns.
     for one, other in product(("", " { }3..3", " { }0..2"), repeat=2):
-        for kind in EQUALITIES:
+        for kind in CASED_EQUALITIES:
             cases.book([written("{a,b,c}0..3" + one), written("{b,c,d}2..2" + other)], [(kind, 1, 2)])
+
+
+def any_case_cases(cases):
+    """Letters in both cases: the books of which the answer is found by hand, document 01's book in several spellings,
+    rules of kind 5 that are wrong (7), and books of every kind by chance."""
+    for texts, rules, _, _ in CASED:
+        cases.book([written(text) for text in texts], rules)
+    for one, other in product(("{A,B,C}0..3", "{A,b,c}0..3"), ("{b,c,d}2..2", "{B,D,c}2..2")):
+        for kind in (EXACT, ANY_CASE):
+            cases.book([written(one), written(other)], [(kind, 1, 2)])
+    for kind in (b"05", b"5.", b"-5", b"50", b"55", b"6", b"261"):
+        cases.file(EXAMPLE.replace(b"0 1 2 0\n", kind + b" 1 2 0\n"))
+    texts = [written("{N,n}0..3"), written("n1..1 N0..1")]
+    for rule in (
+        (ANY_CASE, 1, 1), (ANY_CASE, 2, 2), (ANY_CASE, 0, 1), (ANY_CASE, 1, 3), (ANY_CASE, 1, 2, 1),
+        (ANY_CASE, 1, 2, 5), (ANY_CASE, 1, 2, MOST_NUMBER), (6, 1, 2), (261, 1, 2),
+    ):
+        cases.book(texts, [(ANY_CASE, 1, 2), rule, (7, 7, 7)])
+    cases.book(texts, [(ANY_CASE, 2, 1)] * MOST_RULES)
+    dice = Dice(43)
+    for _ in range(16):
+        cases.book(*any_case_book(dice))
 
 
 def wrong_lines(line):
@@ -693,6 +716,7 @@ def all_cases():
     padded_cases(cases)
     large_cases(cases)
     size_cases(cases)
+    any_case_cases(cases)
     return cases.lines
 
 

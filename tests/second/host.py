@@ -13,7 +13,7 @@ from file import (
 )
 from joins import JOIN
 from making import ONE_EACH, block, written
-from pairs import AT_MOST, BEFORE, EQUAL, EQUALITIES, EXACT
+from pairs import ANY_CASE, AT_MOST, BEFORE, EQUAL, EQUALITIES, EXACT
 from shapes import WORK_WANTED, Refused, agree
 
 # What the checking host has room for.
@@ -99,8 +99,8 @@ CROSSED, LARGE, EMPTY = ONE_EACH
 LONG = [GOOD, block(b"a", 0, 126), block(b"a", 0, 125)]
 OVER = (JOIN, 1, 2, 3)
 
-# Each number that is about the book, with a book in which nothing else is wrong; then books in which two things are
-# wrong, with the number that is tried first.
+# Each number that is about the book, with a book in which nothing else is wrong, and 0 with one in which nothing is;
+# then books in which two things are wrong, with the number that is tried first.
 ALONE = (
     (8, EXAMPLE[:-1]),
     (6, book_file([2], GOOD, [])),
@@ -109,8 +109,10 @@ ALONE = (
     (11, file_of([GOOD, EMPTY], [(EQUAL, 1, 2)])),
     (3, file_of([GOOD, HEAVY * 2], [(EQUAL, 1, 2)])),
     (7, file_of([GOOD, GOOD], [(EQUAL, 1, 1)])),
-    (7, file_of([GOOD, GOOD], [(5, 1, 2)])),
+    (0, file_of([GOOD, GOOD], [(ANY_CASE, 1, 2)])),
     (7, file_of([GOOD, GOOD], [(EXACT, 1, 2, 1)])),
+    (7, file_of([GOOD, GOOD], [(ANY_CASE, 1, 2, 1)])),
+    (7, file_of([GOOD, GOOD], [(6, 1, 2)])),
     (12, file_of(LONG, [OVER])),
 )
 TOGETHER = (
@@ -130,9 +132,11 @@ TOGETHER = (
     (2, file_of([*LONG, CROSSED], [OVER])),
     (7, file_of(LONG, [(JOIN, 2, 2, 3)])),
     (7, file_of(LONG, [(EQUAL, 1, 1), OVER])),
-    (7, file_of(LONG, [(5, 1, 2), OVER])),
+    (12, file_of(LONG, [(ANY_CASE, 1, 2), OVER])),
+    (7, file_of(LONG, [(6, 1, 2), OVER])),
     (12, file_of(LONG, [OVER, (EQUAL, 1, 1)])),
-    (12, file_of(LONG, [(EXACT, 1, 2), OVER, (5, 1, 2)])),
+    (12, file_of(LONG, [(EXACT, 1, 2), OVER, (ANY_CASE, 1, 2)])),
+    (12, file_of(LONG, [(EXACT, 1, 2), OVER, (6, 1, 2)])),
 )
 
 

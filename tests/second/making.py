@@ -204,6 +204,11 @@ def padded_anew(dice, text, most):
     return (text.rstrip(b" ") + b" " * dice.pick((0, 1, dice.between(0, most), most)))[:MOST_CHARACTERS]
 
 
+def recased(dice, text):
+    """The text with each of its letters in either case."""
+    return bytes(dice.pick(codes) for codes in zip(text, text.swapcase()))
+
+
 # Mostly codes whose numbers are short to write.
 ALPHABETS = (
     (0, 1), (0, 1, 2), (64, 65), (64, 65, 66), (0, 1, 64, 65), b"ABCD", b"Nm", (62, 63, 64, 65), (0, 63, 64, 127),
@@ -261,6 +266,9 @@ SMALL_ALPHABETS = ((0, 1), (0, 1, 2), (0, 1, 2), (64, 65), (0, 64), (0, 1, 63, 6
 
 # With the blank: beside its neighbours, beside the code with its bit in the other number of a base, beside letters.
 PADDED_ALPHABETS = ((31, 32), (32, 33), (32, 96), (0, 32, 64), b" A", b" A", b" AB", b" AB")
+
+# With letters in both cases: alone, beside their neighbours that are none, beside the blank, and two of them.
+CASE_ALPHABETS = (b"Aa", b"@A`a", b"Z[z{", b" Nn", b"MNmn", b"MNmn")
 
 
 def same(text):

@@ -1,4 +1,4 @@
-"""The cases of narrowing: two shapes under both equalities, "at most" and "before", and three under a join."""
+"""The cases of narrowing: two shapes under the equalities, "at most" and "before", and three under a join."""
 
 from itertools import product
 
@@ -6,11 +6,14 @@ import joins
 import pairs
 from joins import JOIN, narrowed_join
 from making import (
-    NUMBER_FILLER, ONE_EACH, PADDED_ALPHABETS, Dice, block, carved, counted, edge_pairs, hexes,
-    hold_numbers_to_room, large_pair, lists_read, many_blocks, numbers_read, padded_anew, random_filling, refused_pairs,
-    shared_out, small_blocks, small_pair, unsound_blocks, words_of, written,
+    CASE_ALPHABETS, NUMBER_FILLER, ONE_EACH, PADDED_ALPHABETS, Dice, block, carved, counted, edge_pairs, hexes,
+    hold_numbers_to_room, large_pair, lists_read, many_blocks, numbers_read, padded_anew, random_filling, recased,
+    refused_pairs, shared_out, small_blocks, small_pair, unsound_blocks, words_of, written,
 )
-from pairs import AT_MOST, BEFORE, EQUAL, EQUALITIES, EXACT, FEW_FILLINGS, KINDS, narrowed
+from pairs import (
+    ANY_CASE, AT_MOST, BEFORE, CASED_EQUALITIES, CASED_KINDS, EQUAL, EQUALITIES, EXACT, FEW_FILLINGS, KINDS,
+    in_other_case, narrowed,
+)
 from shapes import (
     BLANK, MOST_BLOCKS, MOST_CHARACTERS, WORK_WANTED, Refused, agree, fillings, pair_of, shape_of, trio_of,
 )
@@ -85,15 +88,15 @@ class Cases:
         numbers = [kind, work, length, other_length, *counted(first), *counted(second)]
         self.lines.append(" ".join(["N", *hexes(numbers)]))
 
-    def kinds(self, first, second, kinds=KINDS):
+    def kinds(self, first, second, kinds=CASED_KINDS):
         for kind in kinds:
             self.add(kind, first, second)
 
-    def equalities(self, first, second):
-        """Both equalities, both ways round."""
-        self.kinds(first, second, EQUALITIES)
+    def equalities(self, first, second, kinds=CASED_EQUALITIES):
+        """Some equalities, both ways round."""
+        self.kinds(first, second, kinds)
         if first != second:
-            self.kinds(second, first, EQUALITIES)
+            self.kinds(second, first, kinds)
 
     def join(self, whole, front, back, work=WORK_WANTED, lengths=(None, None, None)):
         """A case of three shapes; an output without a length is exactly as long as it has to be."""
@@ -103,8 +106,8 @@ class Cases:
 
 
 def by_turns(number):
-    """One kind after the other."""
-    return KINDS[number % len(KINDS)]
+    """One kind after the other, of those in which case counts."""
+    return CASED_KINDS[number % len(CASED_KINDS)]
 
 
 RUN = "{d,e}0..1 {f,g}0..4 {d,e,f}2..4 {a,b,c}0..3 {f,g}1..4", "{a,b}0..3 {c,d}0..3 a1..3 {d,e}1..3"
@@ -161,11 +164,11 @@ def hold_to_answer(what, shapes, found, answer):
 def table_cases(cases):
     for kind, first, second, answer in TABLE:
         first, second = written(first), written(second)
-        # There is no blank in it, so that both equalities answer alike.
+        # There is no blank in it, and no letter in both cases, so that all equalities answer alike.
         for one in EQUALITIES if kind == EXACT else (kind,):
             hold_to_answer("document 01's table", (first, second), narrowed(*pair_of(first, second), one), answer)
-        cases.kinds(first, second)
-        cases.kinds(second, first)
+        cases.kinds(first, second, KINDS)
+        cases.kinds(second, first, KINDS)
     for first, second in PICKED:
         cases.kinds(written(first), written(second))
         cases.kinds(written(second), written(first))
@@ -182,10 +185,9 @@ def lent_cases(cases):
                 cases.add(kind, first, second, length=length)
             for length in (0, len(second) - 1, len(second) + 1, LONGEST_OUTPUT):
                 cases.add(kind, first, second, other_length=length)
-        cases.add(EQUAL, first, second, LONGEST_WORK, len(first) + 3, len(second) + 2)
-        cases.add(EQUAL, first, second, WORK_WANTED - 1, len(first) - 1)
-        cases.add(EXACT, first, second, LONGEST_WORK, len(first) + 3, len(second) + 2)
-        cases.add(EXACT, first, second, WORK_WANTED - 1, len(first) - 1)
+        for kind in EQUALITIES:
+            cases.add(kind, first, second, LONGEST_WORK, len(first) + 3, len(second) + 2)
+            cases.add(kind, first, second, WORK_WANTED - 1, len(first) - 1)
         cases.add(AT_MOST, first, second, WORK_WANTED - 1, len(first), len(second) - 1)
         cases.add(BEFORE, first, second, WORK_WANTED, len(first) - 1, len(second) - 1)
 
@@ -212,8 +214,8 @@ def alike_cases(cases):
         cases.kinds(stem + tail + stem, stem + other_tail)
 
 
-# Blanks. X, Y and the answers of both equalities, as they are found by hand; the second one is left out where it is the
-# same. True stands for both shapes as entered.
+# Blanks. X, Y and the answers of equality but for padding and of exact equality, as they are found by hand; the second
+# one is left out where it is the same. True stands for both shapes as entered.
 PADDED = (
     # A text of blanks equals the empty one, whatever their number.
     ("{ }0..5", "empty 0..0", True, ("empty 0..0", "empty 0..0")),
@@ -285,7 +287,7 @@ PADDED = (
 def padded_table_cases(cases):
     for first, second, padded, *exact in PADDED:
         pair = [written(first), written(second)]
-        for kind, answer in zip(EQUALITIES, (padded, *(exact or [padded]))):
+        for kind, answer in zip(CASED_EQUALITIES, (padded, *(exact or [padded]))):
             answer = (first, second) if answer is True else answer
             hold_to_answer("blanks, found by hand", pair, narrowed(*pair_of(*pair), kind), answer)
         cases.equalities(*pair)
@@ -330,14 +332,14 @@ def padded_pair(dice, most):
 def padded_random_cases(cases):
     dice = Dice(25)
     for number in range(180):
-        cases.kinds(*padded_pair(dice, 3), KINDS if number % 4 == 0 else EQUALITIES)
+        cases.kinds(*padded_pair(dice, 3), CASED_KINDS if number % 4 == 0 else CASED_EQUALITIES)
     for _ in range(60):
         pair = small_pair(dice, FEW_FILLINGS, PADDED_ALPHABETS, lambda text: blank_put_in(dice, text))
-        cases.kinds(*pair, EQUALITIES)
+        cases.kinds(*pair, CASED_EQUALITIES)
     for _ in range(16):
         alphabets = (b" A", b" AB", range(30, 36))
         pair = large_pair(dice, alphabets, lambda text: padded_anew(dice, text, MOST_CHARACTERS))
-        cases.kinds(*pair, EQUALITIES)
+        cases.kinds(*pair, CASED_EQUALITIES)
     # The sweep says cannot, and yet there are texts that are equal but for their padding.
     wanted = 40
     while wanted:
@@ -345,7 +347,7 @@ def padded_random_cases(cases):
         first, second = pair_of(*pair)
         if places(first, second)[0] is None and narrowed(first, second, EQUAL) is not None:
             wanted -= 1
-            cases.kinds(*pair, EQUALITIES)
+            cases.kinds(*pair, CASED_EQUALITIES)
 
 
 def padded_cases(cases):
@@ -591,6 +593,227 @@ def steep_cases(cases):
         cases.join(steep(dice, codes, runs, MOST_BLOCKS, late, True), front, back)
 
 
+# Letter case. X, Y and the answers of equality in any case and of exact equality, as they are found by hand; the second
+# one is left out where it is the same. True stands for both shapes as entered.
+CASED = (
+    # The unit in any case, each shape in its own.
+    ("N1..1 M1..1", "N1..1 m1..1", True, None),
+    ("N1..1 M1..1", "n1..1 m1..1", True, None),
+    ("N1..1 m1..1", "n1..1 m1..1", True, None),
+    ("N1..1 m1..1", "n1..1 M1..1", True, None),
+    ("N1..1 m1..1", "N1..1 m1..1", True),
+    ("N1..1 m1..1", "M1..1 n1..1", None),
+    ("N1..1", "n1..1", True, None),
+    # Both cases in one base, and what the other leaves of it.
+    ("{N,n}1..1", "n1..1", True, ("n1..1", "n1..1")),
+    ("{N,n}1..1", "{N,n}1..1", True),
+    ("{N,n}1..1 {M,m}1..1", "N1..1 m1..1", True, ("N1..1 m1..1", "N1..1 m1..1")),
+    ("{N,n}0..2", "{M,N}1..1", ("{N,n}1..1", "N1..1"), ("N1..1", "N1..1")),
+    ("{M,N}1..1", "{m,n}1..1", True, None),
+    ("{M,N}1..1", "{n,o}1..1", ("N1..1", "n1..1"), None),
+    ("{N,m}2..2", "{M,n}2..2", True, None),
+    ("{N,m}2..2", "{m,n}2..2", True, ("m2..2", "m2..2")),
+    ("{N,O,m}1..1", "{M,N,o}1..1", True, ("N1..1", "N1..1")),
+    ("{A,a,b}0..3", "{B,C,c}2..2", ("b2..2", "B2..2"), None),
+    ("{A..Z}2..2", "n1..1 m1..1", ("{M,N}2..2", "n1..1 m1..1"), None),
+    ("{A..Z,a..z}1..6", "N1..1 m1..1", ("{M,N,m,n}2..2", "N1..1 m1..1"), ("{N,m}2..2", "N1..1 m1..1")),
+    ("{ ..~}1..1", "n1..1", ("{N,n}1..1", "n1..1"), ("n1..1", "n1..1")),
+    # All letters, and their neighbours, which are none, 32 codes apart as letters are.
+    ("{A..Z}0..9", "{a..z}0..9", True, ("empty 0..0", "empty 0..0")),
+    ("{A..Z}0..9", "{a..z}3..4", ("{A..Z}3..4", "{a..z}3..4"), None),
+    ("{@..[}1..1", "{`..{}1..1", ("{A..Z}1..1", "{a..z}1..1"), None),
+    ("{@..{}0..3", "{@..{}0..3", True),
+    ("{@..{}0..3", "{@..M}2..9", ("{@..M,a..m}2..3", "{@..M}2..3"), ("{@..M}2..3", "{@..M}2..3")),
+    ("@1..1", "`1..1", None),
+    ("[1..1", "{{}1..1", None),
+    ("{@,A}1..1", "{`,a}1..1", ("A1..1", "a1..1"), None),
+    ("{Z,[}1..1", "{z,{}1..1", ("Z1..1", "z1..1"), None),
+    ("{@,A,Z,[}0..4", "{`,a,z,{}2..9", ("{A,Z}2..4", "{a,z}2..4"), None),
+    ("{@,[}0..4", "{`,{}0..9", ("empty 0..0", "empty 0..0")),
+    ("@1..1 a1..1", "@1..1 A1..1", True, None),
+    ("11..1", "Q1..1", None),
+    ("11..1", "q1..1", None),
+    ("{1,Q,q}1..1", "{1,q}1..1", True, ("{1,q}1..1", "{1,q}1..1")),
+    ("{0..9,A..Z}2..3", "{a..m}0..1 {5..7}2..9",
+     ("{5..7,A..M}2..3", "{a..m}0..1 {5..7}2..3"), ("{5..7}2..3", "empty 0..0 {5..7}2..3")),
+    # The empty text, and blocks that come to hold nothing.
+    ("empty 0..0", "empty 0..0", True),
+    ("empty 0..0", "N0..1", ("empty 0..0", "empty 0..0")),
+    ("empty 0..0", "n1..1", None),
+    ("N0..1", "n0..1", True, ("empty 0..0", "empty 0..0")),
+    ("N0..2", "m0..2", ("empty 0..0", "empty 0..0")),
+    ("N0..1 m1..1", "M1..1", ("empty 0..0 m1..1", "M1..1"), None),
+    ("a1..1 B0..3 c1..1", "A1..1 C1..1", ("a1..1 empty 0..0 c1..1", "A1..1 C1..1"), None),
+    ("a1..1 empty 0..0 B0..2", "A0..1 b0..1 b1..1", ("a1..1 empty 0..0 B1..2", "A1..1 b0..1 b1..1"), None),
+    # Blanks at the end count.
+    ("{ }0..5", "empty 0..0", ("empty 0..0", "empty 0..0")),
+    ("{ }1..5", "empty 0..0", None),
+    ("N1..1 m1..1 { }1..1", "n1..1 M1..1", None),
+    ("N1..1 { }0..1", "n1..1", ("N1..1 empty 0..0", "n1..1"), None),
+    ("N1..1 m1..1 { }0..4", "n1..1 M1..1 { }2..9", ("N1..1 m1..1 { }2..4", "n1..1 M1..1 { }2..4"), None),
+    ("{ }0..2 N1..1", "{ }1..9 n1..1", ("{ }1..2 N1..1", "{ }1..2 n1..1"), None),
+    ("{N, }3..3", "n1..1", None),
+    ("{N, }3..3", "n1..1 { }0..9", ("{N, }3..3", "n1..1 { }2..2"), None),
+    # Counts that blocks share: nothing is cut because one filling explains the text.
+    ("N0..1 n0..1", "n1..1", True, ("empty 0..0 n1..1", "n1..1")),
+    ("N0..1 N0..1", "n1..1", True, None),
+    ("A0..3 a0..3", "a2..2", ("A0..2 a0..2", "a2..2"), ("empty 0..0 a2..2", "a2..2")),
+    ("A0..3 a2..3 A0..3", "A3..3", ("A0..1 a2..3 A0..1", "A3..3"), None),
+    ("N0..3 m0..3", "{M,N}2..4", True, ("N2..3 empty 0..0", "N2..3")),
+    ("N0..3 m0..3", "n3..3 M3..3", ("N3..3 m3..3", "n3..3 M3..3"), None),
+    ("{a,b}0..3 A0..3", "B2..2 a1..4", ("{a,b}2..3 A0..3", "B2..2 a1..4"), None),
+    ("{A,b}3..3", "a1..1 {A,B}0..1 B1..2", True, None),
+    # Document 01's rows, and its pair that has no common text though the sweep does not see it.
+    ("{A,C,b}0..3", "{D,b,c}2..2", ("{C,b}2..2", "{b,c}2..2"), ("b2..2", "b2..2")),
+    ("{A..C}0..30 d5..5 {c..f}0..2", "{b..d}26..26 F1..1",
+     ("{B,C}20..21 d5..5 {c,d,f}1..2", "{b..d}26..26 F1..1"), None),
+    ("a1..1", "B1..1", None),
+    ("a0..1 B1..1 A0..1", "b0..1 a2..2 B0..1", None),
+    # A torque line.
+    ("T1..1 {0..9}1..2 .1..1 {0..9}2..2 N1..1 m1..1", "t1..1 {0..9}2..2 .1..1 {0..9}1..2 {N,n}1..1 M1..1",
+     ("T1..1 {0..9}2..2 .1..1 {0..9}2..2 N1..1 m1..1", "t1..1 {0..9}2..2 .1..1 {0..9}2..2 {N,n}1..1 M1..1"), None),
+    # As long as may be, and as many blocks.
+    ("N250..250", "n250..250", True, None),
+    ("N0..250", "n249..250", ("N249..250", "n249..250"), None),
+    ("N250..250", "n249..249", None),
+    ("{N,n}250..250", "N125..125 n125..125", True),
+    ("{M,N,m,n}250..250", "N1..1 {M,n}249..249", True, ("{M,N,n}250..250", "N1..1 {M,n}249..249")),
+    ("N7..7 " * 32, "n224..224", True, None),
+    ("N0..7 " * 32, "n200..200", True, None),
+    ("N0..7 " * 32, "n220..220", ("N3..7 " * 32, "n220..220"), None),
+)
+
+# The equalities to the last character.
+TO_THE_LAST = (EXACT, ANY_CASE)
+
+
+def any_case_table_cases(cases):
+    for first, second, any_case, *exact in CASED:
+        pair = [written(first), written(second)]
+        for kind, answer in zip((ANY_CASE, EXACT), (any_case, *(exact or [any_case]))):
+            answer = (first, second) if answer is True else answer
+            hold_to_answer("letter case, found by hand", pair, narrowed(*pair_of(*pair), kind), answer)
+        cases.kinds(*pair, KINDS)
+        if pair[0] != pair[1]:
+            cases.add(ANY_CASE, *reversed(pair))
+
+
+# A blank, and both sides of the least and the greatest letter in both cases.
+LETTER_EDGES = (BLANK, 64, 65, 90, 91, 96, 97, 122, 123)
+
+
+def any_case_code_cases(cases):
+    """Every code against all, the edges against each other, and codes that differ as two cases do."""
+    whole = block(range(128), 1, 1)
+    for code in range(128):
+        one = block([code], 1, 1)
+        pair = (one, whole) if code % 2 else (whole, one)
+        cases.add(ANY_CASE, *pair)
+        if chr(code).isalpha():
+            cases.add(ANY_CASE, *reversed(pair))
+    for one, other in product(LETTER_EDGES, repeat=2):
+        cases.add(ANY_CASE, block([one], 1, 1), block([other], 1, 2))
+    for code in (0, 1, 17, 26, 31, 32, 49, 58, 63, 64, 91, 95):
+        cases.equalities(block([code], 1, 1), block([code + 32], 0, 1), (ANY_CASE,))
+    for low in (17, 49, 81):
+        cases.kinds(block([low, low + 32], 0, 2), block([low + 32], 2, 2), TO_THE_LAST)
+    # Large bases, with letters in both cases, in one, and without.
+    capitals, small = range(65, 91), range(97, 123)
+    bases = [range(128), capitals, small, range(0, 128, 3), range(64, 97), range(91, 128)]
+    for one, other in product(bases, repeat=2):
+        cases.add(ANY_CASE, block(one, 0, 2), block(other, 1, 3))
+
+
+def other_words(words):
+    """The numbers of a shape with each letter in its other case."""
+    return words_of(in_other_case(shape_of(words)))
+
+
+def any_case_limit_cases(cases):
+    """Pairs at the limits and with blocks that hold nothing, one of them in its other case; work buffers and outputs
+    that are too short and longer; and pairs that are refused."""
+    for at, (first, second) in enumerate(edge_pairs()):
+        if at % 4 == 0:
+            cases.add(ANY_CASE, *((first, other_words(second)) if at % 8 else (other_words(first), second)))
+    for first, second in (("N0..1 n0..1", "n1..1"), ("N1..1", "m1..1 n0..1")):
+        first, second = written(first), written(second)
+        for work in (0, WORK_WANTED - 1, WORK_WANTED + 1, LONGEST_WORK):
+            cases.add(ANY_CASE, first, second, work)
+            cases.add(ANY_CASE, first, second, work, len(first) + 3, len(second) + 2)
+        for length, other_length in ((0, 0), (len(first) - 1, None), (None, len(second) - 1), (LONGEST_OUTPUT,) * 2):
+            cases.add(ANY_CASE, first, second, length=length, other_length=other_length)
+    for at, (first, second) in enumerate(refused_pairs()):
+        if at % 4 == 0:
+            cases.add(ANY_CASE, first, second)
+        elif at % 8 == 1 and len(first) + len(second) < 40:
+            cases.add(ANY_CASE, first, second, WORK_WANTED - 1, 0, 0)
+
+
+def any_case_pair(dice):
+    """Two small shapes with letters in both cases; every second time the other one takes a text of the first, each of
+    its letters in either case."""
+    return small_pair(dice, FEW_FILLINGS, CASE_ALPHABETS, lambda text: recased(dice, text))
+
+
+def any_case_small_cases(cases):
+    dice = Dice(28)
+    for number in range(170):
+        cases.kinds(*any_case_pair(dice), TO_THE_LAST if number % 8 == 0 else (ANY_CASE,))
+    # Where the two equalities to the last character differ, every kind: in some the exact one says none, in some not.
+    for none, wanted in ((True, 12), (False, 18)):
+        while wanted:
+            pair = any_case_pair(dice)
+            exact, any_case = (narrowed(*pair_of(*pair), kind) for kind in TO_THE_LAST)
+            if exact != any_case and (exact is None) == none:
+                wanted -= 1
+                cases.kinds(*pair, KINDS)
+    # The sweep says cannot, and yet there are texts that are equal in any case.
+    wanted = 20
+    while wanted:
+        pair = any_case_pair(dice)
+        first, second = pair_of(*pair)
+        if places(first, second)[0] is None and narrowed(first, second, ANY_CASE) is not None:
+            wanted -= 1
+            cases.kinds(*pair, TO_THE_LAST)
+
+
+LARGE_CASE_ALPHABETS = (b"Aa", b"ABab", b"@AZ[`az{", b" MNmn", range(60, 128), range(128))
+
+
+def any_case_large_cases(cases):
+    dice = Dice(29)
+    for number in range(24):
+        pair = large_pair(dice, LARGE_CASE_ALPHABETS, lambda text: recased(dice, text))
+        cases.kinds(*pair, EQUALITIES if number % 6 == 0 else (ANY_CASE,))
+    # Shapes that leave little of each other, one of them in its other case.
+    for number in range(10):
+        codes = dice.pick((b"ABCDEFGH", b"ABCDabcd", b"@AMZ[`amz{", range(64, 128, 3)))
+        runs, late = steep_runs(dice, codes)
+        late = 24 if number % 2 else late
+        one, other = (steep(dice, codes, runs, dice.between(26, MOST_BLOCKS), late, rising) for rising in (True, False))
+        cases.add(ANY_CASE, one, other_words(other))
+    # The most blocks, whose letters meet in any case only.
+    turns, turned = (many_blocks(MOST_BLOCKS, MOST_CHARACTERS, codes) for codes in (b"Nm", b"nM"))
+    sevens = block(b"N", 0, 7) * MOST_BLOCKS
+    behind = block(b"N", 0, 7) * 31 + block(b" ", 0, 33)
+    for pair in (
+        (turns, turned), (turns, block(b"MN", 100, 250)), (turns, written("n8..8 M8..8 n200..200")),
+        (sevens, block(b"n", 1, 7) * MOST_BLOCKS), (sevens, block(b"n", 7, 7) * 31 + block(b"m", 0, 7)),
+        (sevens, written("n125..125 {N,n}90..125")), (block(b"Nn", 7, 7) * MOST_BLOCKS, written("n112..112 N112..112")),
+        (block(b"Nn", 1, 1) * MOST_BLOCKS, block(b"n", 0, 1) * 31 + block(b"N", 2, 2)),
+        (behind, written("n215..215")), (behind, written("n210..210 { }7..40")),
+    ):
+        cases.equalities(*pair, TO_THE_LAST)
+
+
+def any_case_cases(cases):
+    any_case_table_cases(cases)
+    any_case_code_cases(cases)
+    any_case_limit_cases(cases)
+    any_case_small_cases(cases)
+    any_case_large_cases(cases)
+
+
 def join_cases(cases):
     join_table_cases(cases)
     join_lent_cases(cases)
@@ -625,6 +848,7 @@ def all_cases():
         cases.kinds(*large_pair(dice))
     join_cases(cases)
     steep_cases(cases)
+    any_case_cases(cases)
     return cases.lines
 
 

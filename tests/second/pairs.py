@@ -1,20 +1,25 @@
-"""Exact narrowing of two shapes under both equalities, "at most" and "before".
+"""Exact narrowing of two shapes under the three equalities, "at most" and "before".
 
-Since document 02, order 5, a text may equal another once the blanks at the end of both are dropped, or to its
-last character. Two methods, held to each other. Where fillings are few, every pair of texts is looked at.
-Otherwise rows of bit sets over the states in which two fillings can be while their texts are still alike;
-where padding does not count, also over those in which one has ended and the other goes on over blanks. This
-second method is near to the library's own; witnesses.py holds it to fillings on large shapes.
+By document 02, orders 5 and 9, a text may equal another once the blanks at the end of both are dropped, to its last
+character, or to its last character in any letter case. Two methods, held to each other. Where fillings are few, every
+pair of texts is looked at. Otherwise rows of bit sets over the states in which two fillings can be while their texts
+are still alike; where padding does not count, also over those in which one has ended and the other goes on over
+blanks; where case does not count, texts are alike while their characters are the same once lowered. This second method
+is near to the library's own; witnesses.py holds it to fillings on large shapes.
 """
 
 from functools import lru_cache
 
 from bounds import bound
-from shapes import BLANK, Block, agree, all_runs, fillings, total
+from shapes import BLANK, LOWERED, Block, agree, all_runs, fillings, total
 
-# Equal once trailing blanks are dropped; at most; before; equal to the last character.
-EQUAL, AT_MOST, BEFORE, EXACT = KINDS = (0, 1, 2, 4)
-EQUALITIES = (EQUAL, EXACT)
+# Equal once trailing blanks are dropped; at most; before; equal to the last character; equal in any letter case.
+EQUAL, AT_MOST, BEFORE, EXACT, ANY_CASE = KINDS = (0, 1, 2, 4, 5)
+EQUALITIES = (EQUAL, EXACT, ANY_CASE)
+
+# Those in which case counts.
+CASED_KINDS = (EQUAL, AT_MOST, BEFORE, EXACT)
+CASED_EQUALITIES = (EQUAL, EXACT)
 
 # Pairs of shapes with at most so many fillings each, and so many pairs, are settled by all of them.
 FEW_FILLINGS = 600
@@ -48,6 +53,8 @@ def merged(one, other):
 HOLDS = {
     EQUAL: lambda one, other: one.rstrip(b" ") == other.rstrip(b" "),
     EXACT: lambda one, other: one == other,
+    # Python lowers A to Z of byte strings, and nothing else.
+    ANY_CASE: lambda one, other: one.lower() == other.lower(),
     # Python orders byte strings as 003 orders texts.
     AT_MOST: lambda one, other: one <= other,
     BEFORE: lambda one, other: one < other,
@@ -80,7 +87,7 @@ def hull_of_shape(shape):
 # belongs to a state of the first shape, its bits to the states of the second: both have read one text.
 # A relation is what may follow: both end; the first has the smaller or the greater next character,
 # the end counting as smaller than all, and then each goes on as it likes. If it is padded, one that has
-# ended waits while the other goes on over blanks.
+# ended waits while the other goes on over blanks. If it is of any case, both have read one text once lowered.
 
 
 class States:
@@ -137,25 +144,33 @@ def bits(start, end):
 
 
 class Relation:
-    def __init__(self, alike, smaller, greater, padded=False):
-        self.alike, self.smaller, self.greater, self.padded = alike, smaller, greater, padded
+    def __init__(self, alike, smaller, greater, padded=False, any_case=False):
+        self.alike, self.smaller, self.greater, self.padded, self.any_case = alike, smaller, greater, padded, any_case
 
 
 # Of the first to the second, and of the second to the first.
 RELATIONS = {
     EQUAL: (Relation(True, False, False, padded=True),) * 2,
     EXACT: (Relation(True, False, False),) * 2,
+    ANY_CASE: (Relation(True, False, False, any_case=True),) * 2,
     AT_MOST: (Relation(True, True, False), Relation(True, False, True)),
     BEFORE: (Relation(False, True, False), Relation(False, False, True)),
 }
 
 
-def meetings(ours, others, padded=False):
-    """For each block of ours the states of the others at which both can take one and the same character, and those at
-    which ours can take a blank alone."""
+@lru_cache(maxsize=10_000)
+def standing(base, other, any_case):
+    """The characters of a base that can stand where one of another base does, as a set of bits."""
+    codes = {LOWERED[code] for code in other} if any_case else {*other}
+    return sum(1 << code for code in base if (LOWERED[code] if any_case else code) in codes)
+
+
+def meetings(ours, others, padded=False, any_case=False):
+    """For each block of ours the states of the others at which both can take a character that keeps them alike, and
+    those at which ours can take a blank alone."""
     found = []
     for base, _, _ in ours.shape:
-        together = others.growing_where(lambda other: not set(base).isdisjoint(other.base))
+        together = others.growing_where(lambda other: standing(base, other.base, any_case))
         found.append((together, 1 << others.end if padded and BLANK in base else 0))
     return found
 
@@ -236,7 +251,7 @@ def parting_characters(block, row, others, relation):
 def hull_by_rows(first, second, relation):
     """The first shape narrowed, or None."""
     ours, others = States(first), States(second)
-    meets = meetings(ours, others, relation.padded)
+    meets = meetings(ours, others, relation.padded, relation.any_case)
     parts = [parted(b, others, relation) for b in first]
     before = rows_before(ours, others, meets, rows_of(ours, {0}, 1))
     after = rows_after(ours, others, meets, rows_of_relation(ours, others, parts, relation))
@@ -248,6 +263,7 @@ def hull_by_rows(first, second, relation):
     for number, block in enumerate(first):
         held, lengths = 0, []
         _, alone = meets[number]
+        shared = [standing(block.base, other.base, relation.any_case) for other in second]
         for count in range(block.upper + 1):
             at = ours.start[number] + count
             if count >= block.lower:
@@ -262,9 +278,9 @@ def hull_by_rows(first, second, relation):
                     free[at + 1] = True
                     held |= parting_characters(block, before[at], others, relation)
                 both = before[at] & after[at + 1] >> 1
-                for mask, grow in zip(others.masks, others.grow):
+                for mask, grow in zip(shared, others.grow):
                     if both & grow:
-                        held |= ours.masks[number] & mask
+                        held |= mask
                 if before[at] & after[at + 1] & alone:
                     held |= 1 << BLANK
         codes = tuple(code for code in block.base if held >> code & 1)
@@ -323,11 +339,44 @@ def hold_padding_to_laws(first, second, result):
     agree("more padding", pair, narrowed_by_rows(first + more, second, EQUAL), result and (result[0] + more, result[1]))
 
 
+def spelled(shape, spelling):
+    """The shape with its bases spelled otherwise."""
+    return tuple(Block(tuple(sorted({*spelling(bytes(base))})), lower, upper) for base, lower, upper in shape)
+
+
+def in_other_case(shape):
+    """The shape with each letter in its other case."""
+    return spelled(shape, bytes.swapcase)
+
+
+def hold_case_to_laws(first, second, result):
+    pair = first, second
+    exact = narrowed_by_rows(first, second, EXACT)
+    if exact is not None and (result is None or not all(map(within, exact, result))):
+        raise AssertionError(f"equal, but not in any case: {pair} {exact} {result}")
+    codes = {code for shape in pair for block in shape for code in block.base}
+    if not any(bytes([code]).isupper() and code + 32 in codes for code in codes):
+        agree("any case of letters in one case", pair, result, exact)
+    if all(shape == in_other_case(shape) for shape in pair):
+        agree("any case of bases with both cases", pair, result, exact)
+    # What is kept, lowered, is what is kept of the shapes lowered; also in capitals.
+    for spelling in (bytes.lower, bytes.upper):
+        kept = narrowed_by_rows(*(spelled(shape, spelling) for shape in pair), EXACT)
+        agree("case left out", pair, result and tuple(spelled(shape, spelling) for shape in result), kept)
+    # The other's case changes nothing of ours. A shape equals itself in another case, all of it.
+    respelled = narrowed_by_rows(first, in_other_case(second), ANY_CASE)
+    agree("the other in its other case", pair, respelled, result and (result[0], in_other_case(result[1])))
+    for other in (in_other_case(first), spelled(first, bytes.lower)):
+        agree("a shape in another case", first, narrowed_by_rows(first, other, ANY_CASE), (first, other))
+
+
 def hold_to_laws(first, second, kind, result):
     if result is not None:
         agree("narrowing twice", (first, second), narrowed_by_rows(*result, kind), result)
     if kind == EQUAL:
         hold_padding_to_laws(first, second, result)
+    if kind == ANY_CASE:
+        hold_case_to_laws(first, second, result)
     if kind in EQUALITIES:
         turned = narrowed_by_rows(second, first, kind)
         agree("equality turned", (first, second), turned and turned[::-1], result)

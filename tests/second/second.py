@@ -32,9 +32,9 @@ sweep. The places of X in Y, into an output of r numbers, each 0xa5a5, all shown
     S r X Y          places looks output | cannot looks output | refused number text place output
 
 narrow. The kind is a rule's: 0 equal once trailing blanks are dropped, 1 at most, 2 before, 4 equal to the
-last character. The work buffer has k bytes, each 0x5a; the outputs have rx and ry numbers, each 0xa5a5,
-all shown after the call with ` /` between the two. Of the work buffer the bytes 0 at its start and the
-bytes 0x5a at its end are counted.
+last character, 5 equal to the last character with A to Z counted as a to z. The work buffer has k bytes, each
+0x5a; the outputs have rx and ry numbers, each 0xa5a5, all shown after the call with ` /` between the two. Of
+the work buffer the bytes 0 at its start and the bytes 0x5a at its end are counted.
 
     N kind k rx ry X Y    narrow outputs work z e | none outputs work z e | refused number text place outputs work z e
     J k rx ry rz X Y Z    the same with three outputs

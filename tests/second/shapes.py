@@ -11,6 +11,9 @@ WORK_WANTED = 63_001
 # The character with which instruments pad a field: document 02, order 5.
 BLANK = 32
 
+# Each character with A to Z counted as a to z: document 02, order 9.
+LOWERED = tuple(code + 32 if 65 <= code <= 90 else code for code in range(128))
+
 # Shapes with at most so many fillings are settled by looking at every one of them.
 FEW_FILLINGS = 5000
 

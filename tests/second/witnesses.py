@@ -12,9 +12,9 @@ from functools import lru_cache
 
 from bounds import bound
 from joins import JOIN
-from making import Dice, numbers_read, padded_anew, random_filling
+from making import Dice, numbers_read, padded_anew, random_filling, recased
 from narrow import case_read
-from pairs import AT_MOST, BEFORE, EQUAL, HOLDS, KINDS
+from pairs import ANY_CASE, AT_MOST, BEFORE, EQUAL, HOLDS, KINDS
 from shapes import BLANK, MOST_CHARACTERS, shape_of, total
 
 # Shapes are large if there are so many pairs of places in them.
@@ -68,6 +68,23 @@ def above(mask, bit):
 @lru_cache(maxsize=10_000)
 def bits_of(mask):
     return tuple(bit for bit in range(mask.bit_length()) if mask >> bit & 1)
+
+
+@lru_cache(maxsize=None)
+def alike_bits(any_case, code):
+    """The characters that count as this one: each by itself, or those of a text that is equal in any case."""
+    if not any_case:
+        return 1 << code
+    return character_bits(other for other in range(COUNTS) if keeps(ANY_CASE, (bytes([code]), bytes([other]))))
+
+
+@lru_cache(maxsize=10_000)
+def alike_to(any_case, mask):
+    """The characters that count as one of these."""
+    found = 0
+    for code in bits_of(mask):
+        found |= alike_bits(any_case, code)
+    return found
 
 
 class Answer:
@@ -137,6 +154,7 @@ class Together:
 
     def __init__(self, dice, answer):
         self.dice, self.answer = dice, answer
+        self.any_case = answer.kind == ANY_CASE
         first, *others = answer.shapes
         self.sides = Places(first, 0), Places([block for shape in others for block in shape], len(first))
         self.width = self.sides[1].end + 1
@@ -165,9 +183,9 @@ class Together:
             found.append((ours.behind[at] * self.width + beside, (ours.closes[at], 0)))
         if others.closes[beside]:
             found.append((at * self.width + others.behind[beside], (0, others.closes[beside])))
-        both = ours.takes[at] & others.takes[beside]
+        both = ours.takes[at] & alike_to(self.any_case, others.takes[beside])
         if both:
-            found.append((here + self.width + 1, (both, both)))
+            found.append((here + self.width + 1, (both, others.takes[beside] & alike_to(self.any_case, both))))
         # One text has ended, and the other goes on over blanks.
         if self.answer.kind == EQUAL and beside == others.end and ours.takes[at] >> BLANK & 1:
             found.append((here + self.width, (1 << BLANK, 0)))
@@ -191,18 +209,25 @@ class Together:
 
     # Ways. What is not shown yet is taken first.
 
-    def pick(self, mask, *spots):
-        """The steps by one bit of these, taken on each of these sides at its place."""
-        known = -1
-        for side, place in spots:
-            known &= self.answer.shown[self.sides[side].block[place]]
-        bit = self.dice.pick(bits_of(mask & ~known or mask))
-        return [(side, place, bit) for side, place in spots]
+    def pick(self, side, place, mask):
+        """The step by one bit of these, taken on this side at its place."""
+        known = self.answer.shown[self.sides[side].block[place]]
+        return side, place, self.dice.pick(bits_of(mask & ~known or mask))
 
-    def taken(self, here, masks):
-        """The steps from here by one bit, on each side that has some."""
-        spots = [(side, place) for side, place in enumerate(self.places(here)) if masks[side]]
-        return self.pick(masks[0] or masks[1], *spots)
+    def taken(self, here, masks, side=0, bit=None):
+        """The steps from here by one bit on each side that has some, this bit on this side if it is given: characters
+        that count as one."""
+        places, masks, way = self.places(here), list(masks), []
+        if bit is not None:
+            masks[side] = 1 << bit
+        elif masks[0] and masks[1]:
+            side = self.dice.below(2)
+        for turn in (side, 1 - side):
+            if masks[turn]:
+                way.append(self.pick(turn, places[turn], masks[turn]))
+                if masks[1 - turn]:
+                    masks[1 - turn] &= alike_bits(self.any_case, way[-1][2])
+        return way
 
     def way_to(self, here):
         ways = []
@@ -230,7 +255,7 @@ class Together:
             masks[side] = 1 << bit
         for turn in (side, 1 - side):
             if masks[turn]:
-                way += self.pick(masks[turn], (turn, places[turn]))
+                way.append(self.pick(turn, places[turn], masks[turn]))
                 code = way[-1][2]
                 masks = [masks[0], above(masks[1], code)] if turn == 0 else [below(masks[0], code), masks[1]]
         starts = [places[turn] + (masks[turn] != 0) for turn in (0, 1)]
@@ -249,7 +274,7 @@ class Together:
                 mask = takes
             else:
                 mask = takes if takes and (not closes or self.dice.below(2)) else closes
-            way += self.pick(mask, (side, place))
+            way.append(self.pick(side, place, mask))
             place = places.next(place, way[-1][2])
         return way
 
@@ -280,8 +305,7 @@ class Together:
             for there, masks in self.steps(here):
                 for side in (0, 1) if there in self.alive else ():
                     for bit in self.new(side, places[side], masks[side]):
-                        step = [(turn, places[turn], bit) for turn in (0, 1) if masks[turn]]
-                        self.hold(here, step + self.way_on(there))
+                        self.hold(here, self.taken(here, masks, side, bit) + self.way_on(there))
             for side, mask in enumerate(self.parting(here)):
                 for bit in self.new(side, places[side], mask):
                     self.hold(here, self.parted(here, side, bit))
@@ -340,7 +364,11 @@ def texts_by_chance(dice, answer, together):
             texts[0] = texts[1] + texts[2]
         elif answer.kind not in (AT_MOST, BEFORE):
             text = texts[turn % 2]
-            texts[1 - turn % 2] = padded_anew(dice, text, MOST_CHARACTERS) if answer.kind == EQUAL else text
+            if answer.kind == EQUAL:
+                text = padded_anew(dice, text, MOST_CHARACTERS)
+            elif answer.kind == ANY_CASE:
+                text = dice.pick((text.swapcase(), text.lower(), text.upper(), recased(dice, text)))
+            texts[1 - turn % 2] = text
         yield texts
     if answer.kind in (AT_MOST, BEFORE):
         yield [bound(shapes[0], False), bound(shapes[1], True)]

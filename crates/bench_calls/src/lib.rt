@@ -134,6 +134,17 @@ pub extern "C" fn wedgeotter_padded(
 }
 
 #[no_mangle]
+pub extern "C" fn wedgeotter_any_case(
+    x: &[u64],
+    y: &[u64],
+    work: &mut [u8],
+    out_x: &mut [u64],
+    out_y: &mut [u64],
+) -> u64 {
+    narrowed(dashed::narrow_any_case(x, y, work, out_x, out_y))
+}
+
+#[no_mangle]
 pub extern "C" fn wedgeotter_at_most(
     x: &[u64],
     y: &[u64],

@@ -39,7 +39,7 @@ fn right_fourth(counts: &[u64], rule: Rule) -> bool
 pub fn right_rule(counts: &[u64], rule: Rule) -> bool
     ensures { λ r. ⌜ Tells r (RightRule (now (counts .entry)) rule) ⌝ }
 {
-    if rules::EXACT < rule.kind {
+    if rules::ANY_CASE < rule.kind {
         return false;
     }
     if !names(counts, rule.a) {

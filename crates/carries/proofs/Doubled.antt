@@ -1,25 +1,14 @@
 -- What falls to a number of s within so many numbers: from so many to twice as many. Assumes nothing.
-use mathlib.Core.Path.{_≡_, refl, sym, ap, _∙_, subst}
+use mathlib.Core.Path.{_≡_, subst}
 use mathlib.Core.Logic.{_⊎_, inl, inr, ⊎-elim}
-use Prim.Native.Nat.{ℕ, _+_, _-_, _*_, _/_, _%_, _^_, _≤_, _<_}
-use native.Mathlib.Nat.{add-comm}
+use Prim.Native.Nat.{ℕ, _+_, _-_, _/_, _^_, _≤_, _<_}
 use native.Mathlib.Omega.{arith}
 use lib.Bits.{bitAnd, bitOr}
-use lib.Pow.{shr-shr}
 use Rattle.bases.specs.Base.{Holds, Empty}
 use Rattle.bases.proofs.Plain.{lt-or-le}
 use Rattle.sets.specs.Set.{Exactly}
-use Rattle.sets.proofs.Exact.{exactly-as, exactly-at, both-exactly, either-exactly, down-exactly}
+use Rattle.sets.proofs.Exact.{exactly-as, both-exactly, either-exactly, down-exactly, lower-exactly}
 use Rattle.carries.specs.Climb.{Filled, Falls, Near, Goes, NoFarther}
-
--- ---- so many down
-
-lower-exactly : (n d : ℕ) {m : ℕ} → m ≡ n / 2 ^ d → Exactly m (λ q. Holds n (q + d))
-unfolding Holds
-lower-exactly n d e = exactly-at e (record { so = λ q h. sym (at q) ∙ h; has = λ q h. at q ∙ h })
-  where
-    at : (q : ℕ) → n / 2 ^ d / 2 ^ q % 2 ≡ n / 2 ^ (q + d) % 2
-    at q = ap (λ (x : ℕ). x % 2) (shr-shr n d q ∙ ap (λ (x : ℕ). n / 2 ^ x) (add-comm d q))
 
 -- ---- parts of what is filled
 

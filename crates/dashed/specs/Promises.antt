@@ -27,6 +27,7 @@ use Rattle.pairs.specs.Narrow.{NarrowPromise}
 use Rattle.shapes.specs.Lent.{ShapeChecked}
 use Rattle.texts.specs.Order.{AtMost, Before}
 use Rattle.texts.specs.Padding.{Padded}
+use Rattle.texts.specs.Case.{AnyCase}
 use Rattle.trays.specs.Tray.{TrayPromise}
 
 -- check a shape: sound, or the one refusal that is due
@@ -64,6 +65,10 @@ NarrowPadded xs ys work ox oy work′ ox′ oy′ r = NarrowPromise Padded xs ys
 -- the same under equality to the letter
 abbrev pub NarrowExact : List ℕ → List ℕ → List ℕ → List ℕ → List ℕ → List ℕ → List ℕ → List ℕ → Narrowed → Type 0
 NarrowExact xs ys work ox oy work′ ox′ oy′ r = NarrowPromise (λ t u. t ≡ u) xs ys work ox oy work′ ox′ oy′ r
+
+-- the same under equality but for letter case (document 02, order 9)
+abbrev pub NarrowAnyCase : List ℕ → List ℕ → List ℕ → List ℕ → List ℕ → List ℕ → List ℕ → List ℕ → Narrowed → Type 0
+NarrowAnyCase xs ys work ox oy work′ ox′ oy′ r = NarrowPromise AnyCase xs ys work ox oy work′ ox′ oy′ r
 
 -- the same under "at most" and "before"
 abbrev pub NarrowAtMost : List ℕ → List ℕ → List ℕ → List ℕ → List ℕ → List ℕ → List ℕ → List ℕ → Narrowed → Type 0

@@ -12,7 +12,7 @@ use answers::Written;
 // Judges a tray of pairs at once, up to 64, each by the quick sweep of one range of the lent blocks in another, into the answer record of its number. Its promise is
 // `SweepTray`. It is handed on as it is: a function that passes a slice of structs on would be proved by hand a second time.
 pub use trays::sweep_tray;
-ghost use Rattle.dashed.specs.Promises.{CheckShape, FitsShape, Earlier, LeastText, GreatestText, Sweep, NarrowPadded, NarrowExact, NarrowAtMost, NarrowBefore, NarrowJoin, CommonText, FindMark, RunBook, RunFile, RunHost};
+ghost use Rattle.dashed.specs.Promises.{CheckShape, FitsShape, Earlier, LeastText, GreatestText, Sweep, NarrowPadded, NarrowExact, NarrowAnyCase, NarrowAtMost, NarrowBefore, NarrowJoin, CommonText, FindMark, RunBook, RunFile, RunHost};
 
 // Checks a shape, lent as 64-bit numbers, four to a block.
 pub fn check_shape(shape: &[u64]) -> Checked
@@ -89,6 +89,22 @@ pub fn narrow_exact(
         (now (work .exit)) (now («out_x» .exit)) (now («out_y» .exit)) r ⌝ }
 {
     kinds::narrow(rules::EXACT, x, y, work, out_x, out_y)
+}
+
+// The same without regard to letter case, a rule's kind 5: over the pairs of fillings whose texts are equal once A to Z are read as a to z, in both. It is for units
+// and other words that test houses write as they like. Blanks count, and each base keeps its letters in the cases in which it was lent them. The sweep's "cannot" and the
+// earliest common text are about texts that are equal to the letter; neither is a ground for a none here.
+pub fn narrow_any_case(
+    x: &[u64],
+    y: &[u64],
+    work: &mut [u8],
+    out_x: &mut [u64],
+    out_y: &mut [u64],
+) -> Narrowed
+    ensures { λ r. ⌜ NarrowAnyCase (now (x .entry)) (now (y .entry)) (now (work .entry)) (now («out_x» .entry)) (now («out_y» .entry))
+        (now (work .exit)) (now («out_x» .exit)) (now («out_y» .exit)) r ⌝ }
+{
+    kinds::narrow(rules::ANY_CASE, x, y, work, out_x, out_y)
 }
 
 // The same over the pairs in which the text of x is at most that of y, blanks counting as any character.

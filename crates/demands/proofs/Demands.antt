@@ -13,6 +13,7 @@ use Rattle.shapes.specs.Shape.{Block}
 use Rattle.shapes.specs.Lent.{shapeOf}
 use Rattle.texts.specs.Order.{AtMost, Before}
 use Rattle.texts.specs.Padding.{Padded}
+use Rattle.texts.specs.Case.{AnyCase}
 use Rattle.pairs.specs.Narrow.{NarrowPromise}
 use Rattle.joins.proofs.Determined.{join-determined}
 use Rattle.common_calls.proofs.Common.{common-one}
@@ -58,6 +59,7 @@ demand-1 = record {
   host-untouched = λ book report work report′ work′ q p. let r = host-refused book report work report′ work′ q p in (r .1 .0 .1, r .1 .1);
   padded = narrowing-refuses Padded;
   exact = narrowing-refuses (λ t u. t ≡ u);
+  any-case = narrowing-refuses AnyCase;
   at-most = narrowing-refuses AtMost;
   before = narrowing-refuses Before;
   check-shape-one = check-shape-determined;
@@ -121,6 +123,7 @@ demand-2 = record {
   greatest = λ n p. let m = meant Greatest n p in (m .fits, λ u f. at-least-all (m .first u f));
   padded = exact Padded;
   exact = exact (λ t u. t ≡ u);
+  any-case = exact AnyCase;
   at-most = exact AtMost;
   before = exact Before;
   join = exact-join;

@@ -11,8 +11,10 @@ pub mod Request1
 pub mod Requests
 pub mod Request3
 pub mod Request4
+pub mod Relations
 pub mod Cannot
 pub mod Request5
 pub mod Request6
 pub mod Request7
 pub mod Request8
+pub mod Request9

@@ -354,6 +354,7 @@ request-1 = record {
   tray-pair = tray-pair;
   padded = narrowing _;
   exact = narrowing _;
+  any-case = narrowing _;
   at-most = narrowing _;
   before = narrowing _;
   common-text = λ xs ys work out work′ out′.

@@ -16,16 +16,17 @@ use Rattle.books.specs.Counts.{countOf}
 use Rattle.books.specs.Rules.{Names, Keeps}
 use Rattle.books.specs.Code.{numbersIn}
 use Rattle.book_steps.specs.Step.{Standing, laidOver}
-use Rattle.dashed.specs.Promises.{NarrowPadded, NarrowExact, NarrowAtMost, NarrowBefore, NarrowJoin}
+use Rattle.dashed.specs.Promises.{NarrowPadded, NarrowExact, NarrowAnyCase, NarrowAtMost, NarrowBefore, NarrowJoin}
 
--- The promise of the call on two texts that a rule's kind names: 0 equal once trailing blanks are dropped, 1 a at most b, 2 a before b, 4 equal to the letter.
+-- The promise of the call on two texts that a rule's kind names: 0 equal once trailing blanks are dropped, 1 a at most b, 2 a before b, 4 equal to the letter, 5 equal but for letter case.
 abbrev pub CallOf : ℕ → List ℕ → List ℕ → List ℕ → List ℕ → List ℕ → List ℕ → List ℕ → List ℕ → Narrowed → Type 0
 CallOf zero xs ys work ox oy work′ ox′ oy′ r = NarrowPadded xs ys work ox oy work′ ox′ oy′ r
 CallOf (suc zero) xs ys work ox oy work′ ox′ oy′ r = NarrowAtMost xs ys work ox oy work′ ox′ oy′ r
 CallOf (suc (suc zero)) xs ys work ox oy work′ ox′ oy′ r = NarrowBefore xs ys work ox oy work′ ox′ oy′ r
 CallOf (suc (suc (suc zero))) xs ys work ox oy work′ ox′ oy′ r = ⊥
 CallOf (suc (suc (suc (suc zero)))) xs ys work ox oy work′ ox′ oy′ r = NarrowExact xs ys work ox oy work′ ox′ oy′ r
-CallOf (suc (suc (suc (suc (suc k))))) xs ys work ox oy work′ ox′ oy′ r = ⊥
+CallOf (suc (suc (suc (suc (suc zero))))) xs ys work ox oy work′ ox′ oy′ r = NarrowAnyCase xs ys work ox oy work′ ox′ oy′ r
+CallOf (suc (suc (suc (suc (suc (suc k)))))) xs ys work ox oy work′ ox′ oy′ r = ⊥
 
 -- A call for the rule t, on the numbers of its texts among xs: the memory lent, the same as handed back, and any outcome that the promise permits.
 pub data Call (counts : List ℕ) (t : Rule) (xs : List ℕ) (answer : Narrowed) : Type 0 where

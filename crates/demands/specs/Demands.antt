@@ -22,6 +22,7 @@ use Rattle.shapes.specs.Shape.{Block, Filling, textOf, Fits, noBlock}
 use Rattle.shapes.specs.Lent.{Numbers, shapeOf, wordsOf, Accepted, ShapeRefused}
 use Rattle.texts.specs.Order.{AtMost, Before}
 use Rattle.texts.specs.Padding.{Padded}
+use Rattle.texts.specs.Case.{AnyCase}
 use Rattle.hulls.specs.Hull.{Tight}
 use Rattle.hulls.specs.Book.{Within, Stable}
 use Rattle.pairs.specs.Pair.{PairAccepted, Room, NarrowRefused}
@@ -42,7 +43,7 @@ use Rattle.file_lines.specs.Book.{Book}
 use Rattle.files.specs.Departs.{FileAccepted}
 use Rattle.file_runs.specs.Promise.{RunRefused}
 use Rattle.host_calls.specs.Host.{negated}
-use Rattle.dashed.specs.Promises.{CheckShape, FitsShape, Earlier, LeastText, GreatestText, Sweep, SweepTray, NarrowPadded, NarrowExact, NarrowAtMost, NarrowBefore, NarrowJoin, CommonText, FindMark, RunBook, RunFile, RunHost}
+use Rattle.dashed.specs.Promises.{CheckShape, FitsShape, Earlier, LeastText, GreatestText, Sweep, SweepTray, NarrowPadded, NarrowExact, NarrowAnyCase, NarrowAtMost, NarrowBefore, NarrowJoin, CommonText, FindMark, RunBook, RunFile, RunHost}
 use Rattle.demands.specs.Calls.{LeftAlone, none, numbers, Ending, Calls, InOrder, WidestLeft, Choice}
 
 -- ---- demand 1
@@ -116,9 +117,10 @@ pub record Demand1 : Type 1 where
       → (blocks′ ≡ blocks) × (work′ ≡ work)
   pub file-untouched : (file report report′ : List ℕ) (q : Refusal) → RunFile file report report′ (Written.Refused q) → report′ ≡ report
   pub host-untouched : (book report work report′ work′ : List ℕ) (q : Refusal) → RunHost book report work report′ work′ (negated q) → (report′ ≡ report) × (work′ ≡ work)
-  -- both, and the next, of the four narrowings of two texts
+  -- both, and the next, of the five narrowings of two texts
   pub padded : NarrowingRefuses NarrowPadded
   pub exact : NarrowingRefuses NarrowExact
+  pub any-case : NarrowingRefuses NarrowAnyCase
   pub at-most : NarrowingRefuses NarrowAtMost
   pub before : NarrowingRefuses NarrowBefore
   -- for one input there is one outcome: the answer with its count or refusal, and every lent cell
@@ -203,9 +205,10 @@ pub record Demand2 : Type 0 where
       → Fits (shapeOf xs) (take n out′) × ((u : List ℕ) → Fits (shapeOf xs) u → AtMost (take n out′) u)
   pub greatest : {xs out out′ : List ℕ} (n : ℕ) → GreatestText xs out out′ (Written.Text n)
       → Fits (shapeOf xs) (take n out′) × ((u : List ℕ) → Fits (shapeOf xs) u → AtMost u (take n out′))
-  -- "For equality and both orders ..": equality once trailing blanks are dropped, and equality to the letter (document 02, order 5)
+  -- "For equality and both orders ..": equality once trailing blanks are dropped, equality to the letter (document 02, order 5), and equality but for letter case (order 9)
   pub padded : Exact Padded NarrowPadded
   pub exact : Exact (λ t u. t ≡ u) NarrowExact
+  pub any-case : Exact AnyCase NarrowAnyCase
   pub at-most : Exact AtMost NarrowAtMost
   pub before : Exact Before NarrowBefore
   -- and for joins

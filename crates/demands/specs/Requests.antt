@@ -19,14 +19,18 @@ use Rattle.answers.specs.declared.Swept.{Swept}
 use Rattle.answers.specs.declared.SweepVerdict.{SweepVerdict}
 use Rattle.answers.specs.declared.Tray.{Tray}
 use Rattle.answers.specs.declared.Written.{Written}
-use Rattle.bases.specs.Base.{Holds}
+use Rattle.bases.specs.Base.{Holds, Meets}
+use Rattle.sets.specs.Set.{Exactly}
 use Rattle.shapes.specs.All.{All}
 use Rattle.shapes.specs.Shape.{Block, Sound, Fits, total, noBlock, blockSize, blockCount}
 use Rattle.shapes.specs.Wrong.{Crossed, TooLarge, Disagree}
 use Rattle.shapes.specs.Lent.{Numbers, shapeOf, wordsOf, RightLength, Accepted, ShapeRefused}
 use Rattle.texts.specs.Order.{AtMost}
 use Rattle.texts.specs.Padding.{blank, trimmed, Padded, BlanksBehind}
-use Rattle.texts.specs.Kind.{relationOf, paddedKind, atMostKind, beforeKind, joinKind, exactKind}
+use Rattle.texts.specs.Case.{lowered, AnyCase}
+use Rattle.texts.specs.Kind.{relationOf, paddedKind, atMostKind, beforeKind, joinKind, exactKind, anyCaseKind, lastKind}
+use Rattle.letters.specs.Case.{SomeCase, MeetsAnyCase}
+use Rattle.case_blocks.specs.Case.{Wide, Cuts, CasesStay}
 use Rattle.extreme_steps.specs.declared.Direction.{Direction}
 use Rattle.extreme_steps.specs.declared.Direction.the-variants.{Least, Greatest}
 use Rattle.extreme_steps.specs.Steps.{extreme}
@@ -53,7 +57,7 @@ use Rattle.files.specs.Departs.{FileAccepted}
 use Rattle.file_runs.specs.Ends.{FileEnds}
 use Rattle.file_reports.specs.Report.{Verdict, reportOf}
 use Rattle.host_calls.specs.Host.{negated, handed}
-use Rattle.dashed.specs.Promises.{CheckShape, FitsShape, LeastText, GreatestText, Sweep, SweepTray, NarrowPadded, NarrowExact, NarrowAtMost, NarrowBefore, NarrowJoin, CommonText, FindMark, RunBook, RunFile, RunHost}
+use Rattle.dashed.specs.Promises.{CheckShape, FitsShape, LeastText, GreatestText, Sweep, SweepTray, NarrowPadded, NarrowExact, NarrowAnyCase, NarrowAtMost, NarrowBefore, NarrowJoin, CommonText, FindMark, RunBook, RunFile, RunHost}
 use Rattle.demands.specs.Demands.{NarrowCall, TextRefused, refusedRecord}
 
 -- A call tells t: every answer that its promise permits is a refusal that tells t.
@@ -124,6 +128,7 @@ pub record Request1 : Type 0 where
       → OfPair refusedRecord (Judged blocks p) (lentIn blocks (p .x)) (lentIn blocks (p .y))
   pub padded : OfNarrowing NarrowPadded
   pub exact : OfNarrowing NarrowExact
+  pub any-case : OfNarrowing NarrowAnyCase
   pub at-most : OfNarrowing NarrowAtMost
   pub before : OfNarrowing NarrowBefore
   pub common-text : (xs ys work out work′ out′ : List ℕ) → OfPair Shown.Refused (CommonText xs ys work out work′ out′) xs ys
@@ -309,9 +314,8 @@ pub record Request5 : Type 0 where
   -- "Demand 3 holds with both kinds in a book": what such rules ask of texts
   pub asks-padded : (t : Rule) (text : ℕ → List ℕ) → t .kind ≡ paddedKind → Keeps t text ↔ Padded (text (t .a)) (text (t .b))
   pub asks-exact : (t : Rule) (text : ℕ → List ℕ) → t .kind ≡ exactKind → Keeps t text ↔ (text (t .a) ≡ text (t .b))
-  -- "Refusals: none new; kind 4 joins those that 7 lets pass": a rule of kind 4 is right exactly if it were with kind 0, and none of a later kind is
+  -- "Refusals: none new; kind 4 joins those that 7 lets pass": a rule of kind 4 is right exactly if it were with kind 0
   pub four-right : (counts : List ℕ) (a b c : ℕ) → RightRule counts (ruleWith 4 a b c) ↔ RightRule counts (ruleWith 0 a b c)
-  pub five-wrong : (counts : List ℕ) (t : Rule) → 4 < t .kind → RightRule counts t → ⊥
 
 -- ---- order 6
 
@@ -418,3 +422,67 @@ pub record Request8 : Type 0 where
   pub fifteen : (blocks pairs : List ℕ) (row row′ : List AnswerRecord) → (RightList (length pairs) → ⊥) → Tells Tray.Refused (SweepTray blocks pairs row row′) (tell 15 0 0)
   pub then-five : (blocks pairs : List ℕ) (row row′ : List AnswerRecord) → RightList (length pairs) → length row < pairCount pairs
       → Tells Tray.Refused (SweepTray blocks pairs row row′) (tell 5 0 0)
+
+-- ---- order 9
+
+-- As lent: the capital N alone, and the small one.
+abbrev pub capitalUnit : List ℕ
+capitalUnit = 0 ∷ (2 ^ 14 ∷ (1 ∷ (1 ∷ [])))
+
+abbrev pub smallUnit : List ℕ
+smallUnit = 0 ∷ (2 ^ 46 ∷ (1 ∷ (1 ∷ [])))
+
+-- Lent to the calls: the same shapes xs and ys, or xw and yw for them with both cases of each letter; to that of kind 5 work, ox and oy, to the exact one work₁, ox₁ and oy₁.
+pub record Request9 : Type 0 where
+  -- "Kind 5 is equality in which A to Z count as a to z, on both sides"
+  pub kind-5 : (t u : List ℕ) → relationOf anyCaseKind t u ↔ (map lowered t ≡ map lowered u)
+  pub capitals : (c : ℕ) → 65 ≤ c → c ≤ 90 → lowered c ≡ c + 32
+  pub others : (c : ℕ) → (c < 65) ⊎ (90 < c) → lowered c ≡ c
+  -- it is an equality: of a text and itself, either way round, and passed on; equal texts are
+  pub reflexive : (t : List ℕ) → relationOf anyCaseKind t t
+  pub symmetric : (t u : List ℕ) → relationOf anyCaseKind t u → relationOf anyCaseKind u t
+  pub transitive : (t u v : List ℕ) → relationOf anyCaseKind t u → relationOf anyCaseKind u v → relationOf anyCaseKind t v
+  pub equal-texts : (t u : List ℕ) → relationOf exactKind t u → relationOf anyCaseKind t u
+  -- "trailing blanks count in it, as in kind 4": two such texts are of one length, and none is one with blanks behind it
+  pub same-length : (t u : List ℕ) → relationOf anyCaseKind t u → length t ≡ length u
+  pub trailing-counts : (t : List ℕ) (n : ℕ) → relationOf anyCaseKind (t ++ replicate (n + 1) blank) t → ⊥
+  -- "Whether two bases can stand for one character is therefore asked with or without regard to case": with both cases of each letter added, which every base can have, they
+  -- meet exactly if a character of the one and a character of the other are equal but for case
+  pub both-cases : (b : ℕ) → (w : ℕ) × Exactly w (SomeCase b)
+  pub bases-meet : {a b v w : ℕ} → Exactly v (SomeCase a) → Exactly w (SomeCase b) → Meets v w ↔ MeetsAnyCase a b
+  -- "and all that relies on it follows": kind 5 is none exactly if kind 4 is for the shapes with both cases; else it has its counts, and of its characters those entered
+  pub none-follows : {xs ys xw yw work ox oy work′ ox′ oy′ work₁ ox₁ oy₁ work₁′ ox₁′ oy₁′ : List ℕ} → Wide (shapeOf xs) (shapeOf xw) → Wide (shapeOf ys) (shapeOf yw)
+      → NarrowAnyCase xs ys work ox oy work′ ox′ oy′ Narrowed.None → NarrowExact xw yw work₁ ox₁ oy₁ work₁′ ox₁′ oy₁′ Narrowed.Narrow → ⊥
+  pub pair-follows : {xs ys xw yw work ox oy work′ ox′ oy′ work₁ ox₁ oy₁ work₁′ ox₁′ oy₁′ : List ℕ} → Wide (shapeOf xs) (shapeOf xw) → Wide (shapeOf ys) (shapeOf yw)
+      → NarrowAnyCase xs ys work ox oy work′ ox′ oy′ Narrowed.Narrow → NarrowExact xw yw work₁ ox₁ oy₁ work₁′ ox₁′ oy₁′ Narrowed.None → ⊥
+  pub blocks-follow : {xs ys xw yw work ox oy work′ ox′ oy′ work₁ ox₁ oy₁ work₁′ ox₁′ oy₁′ : List ℕ} → Wide (shapeOf xs) (shapeOf xw) → Wide (shapeOf ys) (shapeOf yw)
+      → NarrowAnyCase xs ys work ox oy work′ ox′ oy′ Narrowed.Narrow → NarrowExact xw yw work₁ ox₁ oy₁ work₁′ ox₁′ oy₁′ Narrowed.Narrow
+      → Cuts (shapeOf xs) (shapeOf (take (length xw) ox₁′)) (shapeOf (take (length xs) ox′)) × Cuts (shapeOf ys) (shapeOf (take (length yw) oy₁′)) (shapeOf (take (length ys) oy′))
+  -- "The narrowed bases keep the letters in the cases the shape entered them with": no base has a letter in another case, and each has it in all that were entered
+  pub no-other-case : {xs ys work ox oy work′ ox′ oy′ : List ℕ} → NarrowAnyCase xs ys work ox oy work′ ox′ oy′ Narrowed.Narrow
+      → Within (shapeOf (take (length xs) ox′)) (shapeOf xs) × Within (shapeOf (take (length ys) oy′)) (shapeOf ys)
+  pub cases-stay : {xs ys work ox oy work′ ox′ oy′ : List ℕ} → NarrowAnyCase xs ys work ox oy work′ ox′ oy′ Narrowed.Narrow
+      → CasesStay (shapeOf xs) (shapeOf (take (length xs) ox′)) × CasesStay (shapeOf ys) (shapeOf (take (length ys) oy′))
+  -- so two shapes that differ in the case of letters alone both stay as they were entered, whatever memory is lent, as long as there is room
+  pub both-stay : (xs ys work ox oy work′ ox′ oy′ : List ℕ) {W : List Block} (r : Narrowed) → Wide (shapeOf xs) W → Wide (shapeOf ys) W → PairAccepted xs ys
+      → Room xs ys (length work) (length ox) (length oy) → NarrowAnyCase xs ys work ox oy work′ ox′ oy′ r
+      → (r ≡ Narrowed.Narrow) × (shapeOf (take (length xs) ox′) ≡ shapeOf xs) × (shapeOf (take (length ys) oy′) ≡ shapeOf ys)
+  -- "Kind 4 and the sweep answer as before", with regard to case: of N and n the sweep says cannot and kind 4 none, where kind 5 narrows
+  pub as-before : (out out′ work ox oy work′ ox′ oy′ work₁ ox₁ oy₁ work₁′ ox₁′ oy₁′ : List ℕ) (r : Swept) (s q : Narrowed) → Sweep capitalUnit smallUnit out out′ r
+      → NarrowExact capitalUnit smallUnit work₁ ox₁ oy₁ work₁′ ox₁′ oy₁′ s → NarrowAnyCase capitalUnit smallUnit work ox oy work′ ox′ oy′ q → 2 ≤ length out
+      → Room capitalUnit smallUnit (length work₁) (length ox₁) (length oy₁) → Room capitalUnit smallUnit (length work) (length ox) (length oy)
+      → (r ≡ Swept.Cannot 1) × (s ≡ Narrowed.None) × (q ≡ Narrowed.Narrow)
+  -- "Demands 2 and 3 include kind 5 with its own pairs" (`any-case`): those of kind 4 are among them, so that a none of kind 5 is one of kind 4, and kind 5 keeps at least
+  -- what kind 4 keeps; and what such rules ask of texts
+  pub none-of-both : {xs ys work ox oy work′ ox′ oy′ work₁ ox₁ oy₁ work₁′ ox₁′ oy₁′ : List ℕ} → NarrowAnyCase xs ys work ox oy work′ ox′ oy′ Narrowed.None
+      → NarrowExact xs ys work₁ ox₁ oy₁ work₁′ ox₁′ oy₁′ Narrowed.Narrow → ⊥
+  pub keeps-more : {xs ys work ox oy work′ ox′ oy′ work₁ ox₁ oy₁ work₁′ ox₁′ oy₁′ : List ℕ} → NarrowAnyCase xs ys work ox oy work′ ox′ oy′ Narrowed.Narrow
+      → NarrowExact xs ys work₁ ox₁ oy₁ work₁′ ox₁′ oy₁′ Narrowed.Narrow
+      → Within (shapeOf (take (length xs) ox₁′)) (shapeOf (take (length xs) ox′)) × Within (shapeOf (take (length ys) oy₁′)) (shapeOf (take (length ys) oy′))
+  pub asks-any-case : (t : Rule) (text : ℕ → List ℕ) → t .kind ≡ anyCaseKind → Keeps t text ↔ AnyCase (text (t .a)) (text (t .b))
+  -- "Refusals: none new": what the call of kind 5 is refused for is what that of kind 4 is refused for
+  pub none-new : (xs ys work ox oy work′ ox′ oy′ : List ℕ) (q : Refusal) → NarrowAnyCase xs ys work ox oy work′ ox′ oy′ (Narrowed.Refused q)
+      ↔ NarrowExact xs ys work ox oy work′ ox′ oy′ (Narrowed.Refused q)
+  -- "7 lets kind 5 pass": a rule of kind 5 is right exactly if it were with kind 0, and none of a later kind is
+  pub five-right : (counts : List ℕ) (a b c : ℕ) → RightRule counts (ruleWith 5 a b c) ↔ RightRule counts (ruleWith 0 a b c)
+  pub six-wrong : (counts : List ℕ) (t : Rule) → lastKind < t .kind → RightRule counts t → ⊥

@@ -25,6 +25,7 @@ pub fn narrow_accepted(
         rules::AT_MOST => orders::narrow_order(false, x, y, out_x, out_y),
         rules::BEFORE => orders::narrow_order(true, x, y, out_x, out_y),
         rules::EXACT => equals::narrow_exact(x, y, out_x, out_y),
+        rules::ANY_CASE => any_case::narrow_any_case(x, y, out_x, out_y),
         _ => false,
     }
 }

@@ -13,7 +13,7 @@ pub struct Rule {
 // How many numbers a rule is.
 pub const SIZE: usize = 4;
 
-// The kinds: equal once trailing blanks are dropped, at most, before, equal to the letter; a join is the one that names three texts.
+// The kinds: equal once trailing blanks are dropped, at most, before, equal to the letter, equal but for letter case; a join is the one that names three texts.
 pub const PADDED: u64 = 0;
 
 pub const AT_MOST: u64 = 1;
@@ -23,6 +23,8 @@ pub const BEFORE: u64 = 2;
 pub const JOIN: u64 = 3;
 
 pub const EXACT: u64 = 4;
+
+pub const ANY_CASE: u64 = 5;
 
 // Rule j, from 0, of lent numbers.
 pub fn rule_at(rules: &[u64], j: usize) -> Rule

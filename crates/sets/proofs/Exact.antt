@@ -1,14 +1,14 @@
 -- Which numbers a number holds: laws of `Exactly` for every operation, whatever the number of words. Assumes nothing.
 use mathlib.Core.Path.{_≡_, refl, sym, ap, ap₂, _∙_, subst}
 use mathlib.Core.Logic.{_⊎_, ⊎-elim}
-use Prim.Native.Nat.{ℕ, zero, suc, _+_, _-_, _*_, _/_, _%_, _^_, _<_}
-use native.Mathlib.Nat.{mod-lt, div-one, div-eq-of-lt, lt-of-lt-of-le, pow-suc, one-mul}
+use Prim.Native.Nat.{ℕ, zero, suc, _+_, _-_, _*_, _/_, _%_, _^_, _≤_, _<_}
+use native.Mathlib.Nat.{mod-lt, div-one, div-eq-of-lt, lt-of-lt-of-le, lt-of-le-of-lt, pow-suc, one-mul, add-comm, mul-mod-left}
 use native.Mathlib.Numerals.{add-one}
 use native.Mathlib.Omega.{arith}
 use lib.Arith.{dbl-pred}
 use lib.Bits.{bitAnd, bitOr, bitXor, and-shr, and-mod, xor-shr, xor-mod, and-zero-l}
 use lib.Dec.{lit<, eqb}
-use lib.Pow.{pow-mono, pow-pos, field, mod-mod-pow, ones-split, ones-lt, high, shl-exact}
+use lib.Pow.{pow-mono, pow-pos, field, mod-mod-pow, ones-split, ones-lt, high, shr-shr, shl-shr, shl-exact}
 use Rattle.bases.specs.Base.{Holds, Empty}
 use Rattle.bases.specs.Tells.{Tells}
 use Rattle.bases.proofs.Laws.{halved, none-in-zero}
@@ -112,7 +112,8 @@ double-exactly s = record { so = so; has = λ e u. rw (u .next, add-one) (twice 
     so zero h = let z : s * 2 % 2 ≡ 1 = sym (ap (λ (x : ℕ). x % 2) (div-one (s * 2))) ∙ h in absurd (omega arith)
     so (suc q) h = record { number = q; held = sym (twice q) ∙ h; next = sym (add-one q) }
 
-kept-exactly : (n k : ℕ) → Exactly (n % 2 ^ k) (λ e. (e < k) × Holds n e)
+-- no more than k bits kept
+pub kept-exactly : (n k : ℕ) → Exactly (n % 2 ^ k) (λ e. (e < k) × Holds n e)
 unfolding Holds
 kept-exactly n k = record {
   so = λ e h. let l = held-under k (mod-lt n (pow-pos k)) e h in (l, sym (kept e l) ∙ h);
@@ -128,6 +129,35 @@ kept-exactly n k = record {
 pub up-exactly : (s k : ℕ) {n : ℕ} → n ≡ s * 2 % 2 ^ k → Exactly n (λ e. (e < k) × OneUp s e)
 up-exactly s k d = exactly-at d
     (exactly-as (λ e h. (h .0, double-exactly s .so e (h .1))) (λ e h. (h .0, double-exactly s .has e (h .1))) (kept-exactly (s * 2) k))
+
+-- ---- so many up and so many down
+
+pub lower-exactly : (n d : ℕ) {m : ℕ} → m ≡ n / 2 ^ d → Exactly m (λ e. Holds n (e + d))
+unfolding Holds
+lower-exactly n d z = exactly-at z (record { so = λ e h. sym (at e) ∙ h; has = λ e h. at e ∙ h })
+  where
+    at : (e : ℕ) → n / 2 ^ d / 2 ^ e % 2 ≡ n / 2 ^ (e + d) % 2
+    at e = ap (λ (x : ℕ). x % 2) (shr-shr n d e ∙ ap (λ (x : ℕ). n / 2 ^ x) (add-comm d e))
+
+pub raise-exactly : (n d : ℕ) {m : ℕ} → m ≡ n * 2 ^ d → Exactly m (λ e. (d ≤ e) × Holds n (e - d))
+unfolding Empty
+raise-exactly n d {m} z = record {
+  so = λ e h. ⊎-elim (λ l. absurd (none e l h)) (λ l. (l, subst (λ (x : ℕ). Holds x (e - d)) back (down .has (e - d) (subst (Holds m) (at e l) h)))) (lt-or-le e d);
+  has = λ e h. subst (Holds m) (sym (at e (h .0))) (down .so (e - d) (subst (λ (x : ℕ). Holds x (e - d)) (sym back) (h .1)));
+}
+  where
+    down : Exactly (m / 2 ^ d) (λ e. Holds m (e + d))
+    down = lower-exactly m d refl
+
+    back : m / 2 ^ d ≡ n
+    back = ap (λ (x : ℕ). x / 2 ^ d) z ∙ shl-shr n d
+
+    at : (e : ℕ) → d ≤ e → e ≡ e - d + d
+    at e l = omega arith
+
+    -- below d nothing is held
+    none : (e : ℕ) → e < d → Holds m e → ⊥
+    none e l h = none-in-zero e (subst (λ (x : ℕ). Holds x e) (ap (λ (x : ℕ). x % 2 ^ d) z ∙ mul-mod-left n (2 ^ d)) (kept-exactly m d .has e (l, h)))
 
 -- ---- 2 ^ k and 2 ^ k - 1
 
@@ -154,6 +184,10 @@ ones-exactly k = record { so = held-under k (ones-lt k); has = has }
         let split : k ≡ suc i + e = omega arith in
         ap (λ (z : ℕ). (2 ^ z - 1) / 2 ^ e % 2) split
         ∙ ap (λ (z : ℕ). z % 2) (ap (λ (z : ℕ). z / 2 ^ e) (ones-split (suc i) e) ∙ high (2 ^ suc i - 1) e (ones-lt e)) ∙ odd i
+
+-- a number that holds nothing from k on is below 2 ^ k
+pub under-held : (k : ℕ) {n : ℕ} → ((e : ℕ) → Holds n e → e < k) → n < 2 ^ k
+under-held k {n} u = lt-of-le-of-lt (within-most n (2 ^ k - 1) (λ e h. ones-exactly k .has e (u e h))) (ones-lt k)
 
 -- a one, shifted within a word
 pub one-shl : (k : ℕ) → k < 64 → (1 * 2 ^ k) % 2 ^ 64 ≡ 2 ^ k

@@ -7,3 +7,4 @@ pub mod Refused
 pub mod Fits
 pub mod Numbers
 pub mod Put
+pub mod Front

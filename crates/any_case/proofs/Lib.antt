@@ -1,0 +1,2 @@
+-- Narrowing two lent shapes without regard to case.
+pub mod Lent

@@ -1,0 +1,1 @@
+// Texts, fillings and hulls without regard to case: proofs alone, no code.

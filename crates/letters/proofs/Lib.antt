@@ -1,0 +1,3 @@
+-- The laws of bases without regard to case.
+pub mod Bases
+pub mod Words

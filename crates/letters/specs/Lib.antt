@@ -1,0 +1,3 @@
+-- Bases without regard to case.
+pub mod Case
+pub mod Code

@@ -1,0 +1,43 @@
+-- The blocks at the front of an output: as many numbers as xs has, and what the output had past them. Assumes nothing.
+use mathlib.Core.Path.{_≡_, sym, ap, ap₂, _∙_, subst}
+use mathlib.Core.List.{List, _++_}
+use Prim.Native.Nat.{ℕ, _+_, _-_, _*_, _/_, _%_, _^_, _≤_, _<_}
+use native.Mathlib.Omega.{arith}
+use lib.ListN.{length, getD, take, drop, length-drop, take-append-drop}
+use lib.Seq.{ext-getD, getD-take, getD-drop, length-take-le}
+use Rattle.shapes.specs.Shape.{noBlock}
+use Rattle.shapes.specs.Lent.{blockAt, shapeOf, wordsOf}
+use Rattle.shapes.proofs.All.{all-of}
+use Rattle.shapes.proofs.Lent.{shape-length, shape-at}
+use Rattle.shapes.proofs.Numbers.{words-shape}
+use Rattle.shapes.proofs.Put.{blocks-same}
+
+module _ (xs o : List ℕ) (room : length xs ≤ length o) where
+  pub front-length : length (take (length xs) o) ≡ length xs
+  front-length = length-take-le (length xs) o room
+
+  pub front-size : length (shapeOf (take (length xs) o)) ≡ length (shapeOf xs)
+  front-size = shape-length (take (length xs) o) ∙ ap (λ (n : ℕ). n / 4) front-length ∙ sym (shape-length xs)
+
+  pub front-at : (i : ℕ) → i < length xs / 4 → getD (shapeOf (take (length xs) o)) i noBlock ≡ blockAt o i
+  front-at i h = shape-at (take (length xs) o) i noBlock (let e = front-length in omega arith) ∙ blocks-same
+      (getD-take (length xs) o (i * 4) 0 (omega arith)) (getD-take (length xs) o (i * 4 + 1) 0 (omega arith))
+      (getD-take (length xs) o (i * 4 + 2) 0 (omega arith)) (getD-take (length xs) o (i * 4 + 3) 0 (omega arith))
+
+-- an output whose numbers past its front are those of another is its blocks, and what the other had past them
+module _ (xs o o′ : List ℕ) (whole : length xs % 4 ≡ 0) (room : length xs ≤ length o) (long : length o′ ≡ length o)
+    (kept : (k : ℕ) → length xs ≤ k → getD o′ k 0 ≡ getD o k 0) where
+  pub front-out : ((k : ℕ) → getD o′ k 0 < 2 ^ 64) → o′ ≡ wordsOf (shapeOf (take (length xs) o′)) ++ drop (length xs) o
+  front-out fits = sym (take-append-drop (length xs) o′) ∙ ap₂ _++_ (sym words) rest
+    where
+      taken : length (take (length xs) o′) ≡ length xs
+      taken = front-length xs o′ (omega arith)
+
+      words : wordsOf (shapeOf (take (length xs) o′)) ≡ take (length xs) o′
+      words = words-shape (take (length xs) o′) (let e = taken in omega arith)
+          (all-of (take (length xs) o′) 0 (λ k h. subst (λ (v : ℕ). v < 2 ^ 64) (sym (getD-take (length xs) o′ k 0 (let e = taken in omega arith))) (fits k)))
+
+      rest : drop (length xs) o′ ≡ drop (length xs) o
+      rest = ext-getD 0 (drop (length xs) o′) (drop (length xs) o)
+          (length-drop (length xs) o′ ∙ ap (λ (n : ℕ). n - length xs) long ∙ sym (length-drop (length xs) o))
+          (λ k h. getD-drop (length xs) o′ k 0 ∙ kept (length xs + k) (omega arith) ∙ sym (getD-drop (length xs) o k 0))
