@@ -1,4 +1,5 @@
-// Times the proved calls beside the plain C functions, in one run, and prints each ratio. First the answers of all sides are compared.
+// Times the proved calls beside the plain C functions, in one run, and prints each ratio. First the answers of all
+// sides are compared.
 #include "plain.h"
 #include "wedgeotter.h"
 #include <stdio.h>
@@ -28,7 +29,8 @@ static showing *const common_of[SIDES] = {wedgeotter_common, plain_common, rows_
 static running *const book_of[SIDES] = {wedgeotter_book, plain_book, rows_book};
 static filing *const file_of[SIDES] = {wedgeotter_file, plain_file, rows_file};
 
-// The relations of two texts; equality to the letter, a rule's kind 4, comes first, since the others are measured by it.
+// The relations of two texts; equality to the letter, a rule's kind 4, comes first, since the others are measured by
+// it.
 #define RELATIONS 4
 #define PADDED_EQUAL 1
 static const char *const relation_of[RELATIONS] = {"equal to the letter", "equal but for padding", "at most", "before"};
@@ -173,7 +175,8 @@ static uint64_t singles(const uint64_t *blocks, const uint64_t *pairs) {
     return sum;
 }
 
-// A tray of 64 pairs, each a shape against the next one, with the places as in `sweeps`; beside 64 single sweeps and a loop in C. First trays with bad pairs.
+// A tray of 64 pairs, each a shape against the next one, with the places as in `sweeps`; beside 64 single sweeps and a
+// loop in C. First trays with bad pairs.
 static void trays(const char *size, size_t blocks, uint64_t most) {
     static uint64_t run[SHAPES * 128 + 3];
     uint64_t pairs[256];
@@ -197,8 +200,8 @@ static void trays(const char *size, size_t blocks, uint64_t most) {
     show("tray of 64 pairs", size, SIDES, best), puts("");
 }
 
-// A mark of so many bytes sought in the shapes: letters of the bases at random, or one of them throughout. First the answers on marks of every length, also with bytes
-// that no base has and over 64.
+// A mark of so many bytes sought in the shapes: letters of the bases at random, or one of them throughout. First the
+// answers on marks of every length, also with bytes that no base has and over 64.
 static void finds(const char *size, size_t blocks, uint64_t most, size_t m) {
     uint8_t mark[66];
     for (int i = 0; i < SHAPES; i++) {
@@ -244,8 +247,9 @@ static size_t make_tight(uint64_t *s, const uint64_t *x, size_t n) {
     return 4 * blocks;
 }
 
-// What a random shape stands beside: the next one; a tight one; itself, with fixed counts; the next one, with large bases; where both are fields, one padded otherwise;
-// the next one, where all letters have both cases, and where each has one or both.
+// What a random shape stands beside: the next one; a tight one; itself, with fixed counts; the next one, with large
+// bases; where both are fields, one padded otherwise; the next one, where all letters have both cases, and where each
+// has one or both.
 enum pairing { NEXT_ONE, TIGHT, FIXED, LARGE, FIELDS, BOTH_CASES, SOME_CASES };
 
 // Half of all codes, in the mean, in each base.
@@ -269,8 +273,9 @@ static void make_field(uint64_t *s, size_t n) {
     }
 }
 
-// Makes of a field's copy the same field of another instrument: more letters, other least counts and narrower padding, so that the two have common texts. A bare one
-// lacks the padding, and the field then has all of its own, so that most often the two are equal but for padding alone.
+// Makes of a field's copy the same field of another instrument: more letters, other least counts and narrower padding,
+// so that the two have common texts. A bare one lacks the padding, and the field then has all of its own, so that most
+// often the two are equal but for padding alone.
 static size_t make_beside(int bare, uint64_t *field, uint64_t *s, size_t n) {
     size_t padding = n - n / 4;
     for (size_t j = 0; j < n; j += 4) {
@@ -301,14 +306,15 @@ static void make_pairs(enum pairing with, size_t blocks, uint64_t most) {
 
 #define PAIR shape[i], length[i], other[i], other_length[i], work, sizeof work
 
-// A join of the first shape of each pair, in the mean over the pairs, with two shapes in the place of the other, whose lengths add to its.
+// A join of the first shape of each pair, in the mean over the pairs, with two shapes in the place of the other, whose
+// lengths add to its.
 static uint64_t second[SHAPES][128], third[SHAPES][128];
 static size_t second_length[SHAPES], third_length[SHAPES];
 
 #define TRIPLE shape[i], length[i], second[i], second_length[i], third[i], third_length[i], work, sizeof work
 
-// After the ratios to plain C that to our equality to the letter on the pairs, and how many of the joins and of the pairs are not none. If the two are the other shape
-// cut in two, a join allows what equality does.
+// After the ratios to plain C that to our equality to the letter on the pairs, and how many of the joins and of the
+// pairs are not none. If the two are the other shape cut in two, a join allows what equality does.
 static void joins(const char *size, int cut) {
     uint64_t out[2][3][128], a[128], b[128];
     int some = 0, pairs = 0;
@@ -369,8 +375,9 @@ static void few_joins(const char *size, size_t blocks, uint64_t most) {
     cut_joins(size);
 }
 
-// What padding costs on a pair: our times under it to those to the letter, over the pairs on which both make the same passes, since both narrow or neither does, on
-// the worst of these, and on the worst of the others, where the letters allow no pair, so that the exact call ends after its first pass.
+// What padding costs on a pair: our times under it to those to the letter, over the pairs on which both make the same
+// passes, since both narrow or neither does, on the worst of these, and on the worst of the others, where the letters
+// allow no pair, so that the exact call ends after its first pass.
 static void show_padding(const double *padded, const double *exact, const uint64_t *padded_some, const uint64_t *exact_some) {
     double over = 0, sum = 0, worst[2] = {0, 0};
     for (int i = 0; i < SHAPES; i++) {
@@ -382,8 +389,8 @@ static void show_padding(const double *padded, const double *exact, const uint64
     if (worst[1] > 0) printf(", at most %.2f where padding alone allows a pair", worst[1]);
 }
 
-// Narrowing of the pairs under each relation, in the mean over them; after the ratios to plain C that to our equality to the letter, and how many pairs are not none.
-// Then joins.
+// Narrowing of the pairs under each relation, in the mean over them; after the ratios to plain C that to our equality
+// to the letter, and how many pairs are not none. Then joins.
 static void narrows(const char *size, size_t blocks, uint64_t most, enum pairing with) {
     uint64_t a[128], b[128], c[128], d[128], some[RELATIONS][SHAPES];
     make_pairs(with, blocks, most);
@@ -416,8 +423,9 @@ static void narrows(const char *size, size_t blocks, uint64_t most, enum pairing
     cut_joins(size);
 }
 
-// Equality but for letter case, in the mean over pairs whose letters all have both cases, so that it makes the passes of equality to the letter and leaves the same: after
-// the ratios to plain C that to our equality to the letter, the greatest of a pair, and how many pairs are not none. Before, the sides are compared on letters of any case.
+// Equality but for letter case, in the mean over pairs whose letters all have both cases, so that it makes the passes
+// of equality to the letter and leaves the same: after the ratios to plain C that to our equality to the letter, the
+// greatest of a pair, and how many pairs are not none. Before, the sides are compared on letters of any case.
 static void any_cases(const char *size, size_t blocks, uint64_t most) {
     uint64_t a[128], b[128], c[128], d[128];
     int narrow = 0;
@@ -452,7 +460,8 @@ static void any_cases(const char *size, size_t blocks, uint64_t most) {
 
 #define UNTOUCHED 255 // no character, so that bytes past a text show
 
-// The earliest common text of the pairs, in the mean over them; after the ratios to plain C that to our equality to the letter, and how many pairs meet.
+// The earliest common text of the pairs, in the mean over them; after the ratios to plain C that to our equality to the
+// letter, and how many pairs meet.
 static void commons(const char *size, size_t blocks, uint64_t most, enum pairing with) {
     uint8_t ours[256], plain[256];
     uint64_t a[128], b[128];
@@ -484,7 +493,8 @@ static void commons(const char *size, size_t blocks, uint64_t most, enum pairing
 
 #define LETTERS 16
 
-// A random shape that the text w fits, of so many blocks and so many characters at most; its last base and half of the others have the blank.
+// A random shape that the text w fits, of so many blocks and so many characters at most; its last base and half of the
+// others have the blank.
 static size_t make_around(uint64_t *s, size_t blocks, uint64_t most, const uint8_t *w, size_t len) {
     uint64_t room = most;
     for (size_t i = 0; i < blocks; i++) {
@@ -500,9 +510,10 @@ static size_t make_around(uint64_t *s, size_t blocks, uint64_t most, const uint8
     return 4 * blocks;
 }
 
-// A random book of 8 texts and 16 rules of all kinds, with joins or without. Without them the first four texts can all be one text, the others another after it; with
-// them the first two can be the first half of a line, the next four the line, the others its second half, each after those before. The rules allow that; the book is
-// drawn until its run takes four rounds or more.
+// A random book of 8 texts and 16 rules of all kinds, with joins or without. Without them the first four texts can all
+// be one text, the others another after it; with them the first two can be the first half of a line, the next four the
+// line, the others its second half, each after those before. The rules allow that; the book is drawn until its run
+// takes four rounds or more.
 static uint64_t counts[8], entered[1024], rules[64], made;
 static size_t numbers;
 

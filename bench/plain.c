@@ -56,7 +56,8 @@ uint64_t plain_fits(const uint64_t *s, size_t n, const uint8_t *t, size_t k) {
     return after[0];
 }
 
-// How often a block takes its character c before the successor, which becomes that before the block: -1 the end, 2c + 1 just above c, 2c - 1 just below it.
+// How often a block takes its character c before the successor, which becomes that before the block: -1 the end, 2c + 1
+// just above c, 2c - 1 just below it.
 static inline uint64_t choose(int up, const uint64_t *w, int *succ, int *c) {
     if (w[3] == 0) return 0;
     *c = up ? (w[1] ? 127 - __builtin_clzll(w[1]) : 63 - __builtin_clzll(w[0])) : w[0] ? __builtin_ctzll(w[0]) : 64 + __builtin_ctzll(w[1]);
@@ -203,8 +204,9 @@ uint64_t plain_tray(const uint64_t *blocks, size_t n, const uint64_t *pairs, siz
     return 0;
 }
 
-// Narrowing under equality with a byte table over pairs of positions, 251 to a row. The slot past a shape's last has the padding for its base, and the position stays
-// there however much of it is taken: the text goes on in padding while the other's does.
+// Narrowing under equality with a byte table over pairs of positions, 251 to a row. The slot past a shape's last has
+// the padding for its base, and the position stays there however much of it is taken: the text goes on in padding while
+// the other's does.
 struct slot {
     uint64_t low, high, lower, upper;
 };
@@ -329,7 +331,8 @@ static int least_next(const struct slot *xs, size_t n, const struct slot *ys, si
     return least;
 }
 
-// The earliest common text: the table first, then character by character the positions that the text leads to in either shape.
+// The earliest common text: the table first, then character by character the positions that the text leads to in either
+// shape.
 uint64_t plain_common(const uint64_t *x, size_t nx, const uint64_t *y, size_t ny, uint8_t *t, size_t w, uint8_t *out, size_t k) {
     if (!plain_check(x, nx) || !plain_check(y, ny) || w < 63001 || k < 250) return 1000;
     static struct slot xs[251], ys[251];
@@ -349,8 +352,8 @@ uint64_t plain_common(const uint64_t *x, size_t nx, const uint64_t *y, size_t ny
     return some ? at : 2000;
 }
 
-// A fixed text of m characters as a guide: at each of its places the character that stays with it, those that part from it downwards or (up) upwards,
-// and in `lower` whether a text may end there.
+// A fixed text of m characters as a guide: at each of its places the character that stays with it, those that part from
+// it downwards or (up) upwards, and in `lower` whether a text may end there.
 static void guide(int up, int strict, const uint8_t *text, size_t m, struct slot *next, struct slot *parts) {
     for (size_t q = 0; q < m; q++) {
         unsigned __int128 one = (unsigned __int128)1 << text[q], part = up ? ~(one | (one - 1)) : one - 1;
@@ -375,8 +378,9 @@ static int ends(const struct slot *own, const struct slot *next, size_t m, const
     return 0;
 }
 
-// Narrows one shape by a fixed text with a byte table over positions and characters matched: 1 where some rest keeps to the right side, 2 where also some start
-// matches so far. From position `free` on a text may have parted, and then anything goes.
+// Narrows one shape by a fixed text with a byte table over positions and characters matched: 1 where some rest keeps to
+// the right side, 2 where also some start matches so far. From position `free` on a text may have parted, and then
+// anything goes.
 static int one_side(int up, int strict, const uint64_t *x, size_t nx, const uint8_t *text, size_t m, uint8_t *t, uint64_t *out) {
     static struct slot xs[251], next[251], parts[251];
     size_t n = lay(x, nx, NOTHING, xs), p = 0, free;
@@ -450,7 +454,8 @@ uint64_t plain_before(const uint64_t *x, size_t nx, const uint64_t *y, size_t ny
     return order(1, x, nx, y, ny, t, w, ox, a, oy, b);
 }
 
-// A shape with both cases of each letter: A to Z are the bits 1 to 26 of a base's second word, a to z the bits 33 to 58.
+// A shape with both cases of each letter: A to Z are the bits 1 to 26 of a base's second word, a to z the bits 33 to
+// 58.
 static void add_cases(const uint64_t *s, size_t n, uint64_t *wide) {
     memcpy(wide, s, n * sizeof *wide);
     for (size_t j = 1; j < n; j += 4) wide[j] |= (s[j] >> 32 & 0x7fffffe) | (s[j] & 0x7fffffe) << 32;
@@ -460,7 +465,8 @@ static void cut_bases(const uint64_t *s, size_t n, uint64_t *out) {
     for (size_t j = 0; j < n; j += 4) out[j] &= s[j], out[j + 1] &= s[j + 1];
 }
 
-// Equality but for letter case of checked shapes: to the letter with both cases, and what is left in the cases that the shapes have.
+// Equality but for letter case of checked shapes: to the letter with both cases, and what is left in the cases that the
+// shapes have.
 uint64_t run_any_case(narrowing_by_kind *narrow, const uint64_t *x, size_t nx, const uint64_t *y, size_t ny, uint8_t *t, uint64_t *ox, uint64_t *oy) {
     uint64_t wide_x[128], wide_y[128];
     add_cases(x, nx, wide_x), add_cases(y, ny, wide_y);

@@ -1,5 +1,5 @@
-// The plain C functions that the benchmark compares with: each answers as the proved call of its name does. Those in plain.c narrow with byte tables, those in
-// rows.c with rows of bits.
+// The plain C functions that the benchmark compares with: each answers as the proved call of its name does. Those in
+// plain.c narrow with byte tables, those in rows.c with rows of bits.
 #include <stddef.h>
 #include <stdint.h>
 
@@ -26,7 +26,8 @@ showing plain_common, rows_common; // the text's length, 1000 for a refusal, 200
 running plain_book, rows_book;
 filing plain_file, rows_file;
 
-// What both share: whether lent numbers are a shape or a join, the extreme texts of a shape, a join, a book and its file run with either's narrowing of checked shapes.
+// What both share: whether lent numbers are a shape or a join, the extreme texts of a shape, a join, a book and its
+// file run with either's narrowing of checked shapes.
 int plain_check(const uint64_t *s, size_t n);
 int plain_check_join(const uint64_t *x, size_t nx, const uint64_t *y, size_t ny, const uint64_t *z, size_t nz, size_t w, size_t a, size_t b, size_t c);
 size_t plain_extreme(int up, const uint64_t *s, size_t n, uint8_t *out);
@@ -46,7 +47,8 @@ struct answer {
 uint64_t plain_tray(const uint64_t *blocks, size_t n, const uint64_t *pairs, size_t m, struct answer *row, size_t k);
 struct refusal plain_check_book(const uint64_t *counts, size_t texts, const uint64_t *blocks, size_t nb, const uint64_t *rules, size_t nr, size_t w);
 
-// The padding that an equality lets be dropped at the ends, as a base's first word: nothing, which is equality to the letter, or the blank.
+// The padding that an equality lets be dropped at the ends, as a base's first word: nothing, which is equality to the
+// letter, or the blank.
 #define NOTHING 0ull
 #define BLANK (1ull << 32)
 

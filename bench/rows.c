@@ -1,4 +1,5 @@
-// Plain C functions of the same calls with rows of bits: a set of positions, or of places of a text, is one row, and a step of the whole set a shift.
+// Plain C functions of the same calls with rows of bits: a set of positions, or of places of a text, is one row, and a
+// step of the whole set a shift.
 #include "plain.h"
 #include <string.h>
 
@@ -54,7 +55,8 @@ static inline size_t last(struct row r) {
     return 63 - __builtin_clzll(r.a);
 }
 
-// For each block, from the last to the first, the places of the text from which it and those after it fit; all runs of a length are one set.
+// For each block, from the last to the first, the places of the text from which it and those after it fit; all runs of
+// a length are one set.
 uint64_t rows_fits(const uint64_t *s, size_t n, const uint8_t *t, size_t k) {
     if (!plain_check(s, n)) return 1000;
     if (k > 250) return 0;
@@ -84,7 +86,8 @@ uint64_t rows_fits(const uint64_t *s, size_t n, const uint8_t *t, size_t k) {
     return after.a & 1;
 }
 
-// ---- a mark sought in a shape: for each number of its characters that is matched, its state, the row of the lengths of texts that lack it so far
+// ---- a mark sought in a shape: for each number of its characters that is matched, its state, the row of the lengths
+// of texts that lack it so far
 
 static inline int has(const uint64_t *base, uint8_t c) { return c < 128 && (base[c / 64] >> (c % 64) & 1); }
 
@@ -111,7 +114,8 @@ static uint64_t found(struct row hits, int lacks, size_t m) {
     return lacks * 1000000ull + (first(hits) - m + 1) * 1000 + (last(hits) - m + 1);
 }
 
-// From each state to those that a character leads to, into other rows; where a run may end they are gathered in a third set of rows.
+// From each state to those that a character leads to, into other rows; where a run may end they are gathered in a third
+// set of rows.
 uint64_t spread_find(const uint64_t *s, size_t n, const uint8_t *mark, size_t m) {
     if (!plain_check(s, n) || m > 64) return 1000;
     if (m == 0) return 1001;
@@ -163,7 +167,8 @@ static inline struct row gather(const struct row *rows, uint64_t w) {
     return r;
 }
 
-// As the proved call: in place, each state from itself and the states above, those that have no length left out; where a run may end the rows stay as well.
+// As the proved call: in place, each state from itself and the states above, those that have no length left out; where
+// a run may end the rows stay as well.
 uint64_t rows_find(const uint64_t *s, size_t n, const uint8_t *mark, size_t m) {
     if (!plain_check(s, n) || m > 64) return 1000;
     if (m == 0) return 1001;
@@ -219,7 +224,8 @@ static inline struct row plus(struct row r, struct row s) {
 
 static inline struct row differ(struct row r, struct row s) { return (struct row){r.a ^ s.a, r.b ^ s.b, r.c ^ s.c, r.d ^ s.d}; }
 
-// A shape laid out by position: of each block its positions, those where its run may end early (its zone), and the position past it; all zones in one.
+// A shape laid out by position: of each block its positions, those where its run may end early (its zone), and the
+// position past it; all zones in one.
 struct laid {
     size_t blocks, total;
     struct row slots[32], zones[32], ends[32], free, stops, spans[8]; // from where 1, 2, 4 .. free positions follow each other
@@ -256,7 +262,8 @@ static void lay(const uint64_t *s, size_t n, struct laid *to) {
     SPAN(1) SPAN(2) SPAN(4) SPAN(8) SPAN(16) SPAN(32) SPAN(64) SPAN(128)
 }
 
-// A row with the ends of the runs that may end in it: the carries of a sum go from a position of the row through free ones to where they stop.
+// A row with the ends of the runs that may end in it: the carries of a sum go from a position of the row through free
+// ones to where they stop.
 static inline struct row forward(const struct laid *y, struct row r) {
     struct row x = both(r, y->free);
     return either(r, both(differ(differ(plus(x, y->free), x), y->free), y->stops));
@@ -282,7 +289,8 @@ static inline struct row matching(const uint64_t *base, const uint64_t *y, const
     return r;
 }
 
-// The least and the greatest count of each block: a run ends early at a position of `ended`, and is full if the block's last character is in `moved`.
+// The least and the greatest count of each block: a run ends early at a position of `ended`, and is full if the block's
+// last character is in `moved`.
 static void lengths(const uint64_t *y, const struct laid *laid, struct row moved, struct row ended, uint64_t *out) {
     size_t p = 0;
     for (size_t j = 0; j < laid->blocks; j++) {
@@ -302,7 +310,8 @@ static void lengths(const uint64_t *y, const struct laid *laid, struct row moved
     }
 }
 
-// The last row, where X has ended and Y alone goes on: by the ends of its runs, and over padding in every block that has it.
+// The last row, where X has ended and Y alone goes on: by the ends of its runs, and over padding in every block that
+// has it.
 static struct row trail(uint64_t pad, const uint64_t *y, const struct laid *laid, struct row r) {
     for (size_t j = 0; j < laid->blocks; j++) {
         struct row here = both(r, laid->slots[j]);
@@ -313,7 +322,8 @@ static struct row trail(uint64_t pad, const uint64_t *y, const struct laid *laid
     return r;
 }
 
-// The same backwards from Y's end; `quit` gathers the zones that are let in, `taken` the positions where padding is taken.
+// The same backwards from Y's end; `quit` gathers the zones that are let in, `taken` the positions where padding is
+// taken.
 static struct row trail_back(uint64_t pad, const uint64_t *y, const struct laid *laid, struct row *quit, struct row *taken) {
     struct row r = single(laid->total);
     for (size_t j = laid->blocks; j-- > 0;) {
@@ -328,8 +338,8 @@ static struct row trail_back(uint64_t pad, const uint64_t *y, const struct laid 
 // Where Y waits while block b of X takes a character: at its end, if that may be padding.
 static inline struct row waiting(uint64_t pad, const uint64_t *b, const struct laid *laid) { return b[0] & pad ? single(laid->total) : none; }
 
-// Equality's first pass: for each position of X the row of the positions of Y that one text, but for padding, leads to from the starts. Answers whether it leads to
-// both ends.
+// Equality's first pass: for each position of X the row of the positions of Y that one text, but for padding, leads to
+// from the starts. Answers whether it leads to both ends.
 static int reach(uint64_t pad, const uint64_t *x, size_t nx, const uint64_t *y, const struct laid *laid, struct row *mines, struct row *rows) {
     struct row r = single(0);
     for (size_t i = 0; i < nx / 4; i++) {
@@ -347,7 +357,8 @@ static int reach(uint64_t pad, const uint64_t *x, size_t nx, const uint64_t *y, 
     return meet(*rows, single(laid->total));
 }
 
-// The characters that block b takes beside Y at the positions `used`, for it and for the blocks of Y. At Y's end it takes padding.
+// The characters that block b takes beside Y at the positions `used`, for it and for the blocks of Y. At Y's end it
+// takes padding.
 static void give(uint64_t pad, const uint64_t *b, const uint64_t *y, const struct laid *laid, struct row used, uint64_t *own, uint64_t *other) {
     own[0] = meet(used, single(laid->total)) ? b[0] & pad : 0;
     own[1] = 0;
@@ -361,7 +372,8 @@ static void give(uint64_t pad, const uint64_t *b, const uint64_t *y, const struc
     }
 }
 
-// Equality's second pass, from the ends: its rows are not kept, since what each tells of the blocks is gathered on the way.
+// Equality's second pass, from the ends: its rows are not kept, since what each tells of the blocks is gathered on the
+// way.
 static void back(uint64_t pad, const uint64_t *x, size_t nx, const uint64_t *y, const struct laid *laid, const struct row *mines, const struct row *rows, uint64_t *ox, uint64_t *oy) {
     size_t p = 0;
     for (size_t i = 0; i < nx; i += 4) p += x[i + 3];
@@ -407,8 +419,8 @@ static uint64_t narrow_equal(uint64_t pad, const uint64_t *x, size_t nx, const u
     return 1;
 }
 
-// The pass from the ends that keeps its rows: for each position of X the row of the positions of Y from which one text leads to both ends. Answers whether one does
-// from the starts.
+// The pass from the ends that keeps its rows: for each position of X the row of the positions of Y from which one text
+// leads to both ends. Answers whether one does from the starts.
 static int from_ends(const uint64_t *x, size_t nx, const uint64_t *y, const struct laid *laid, struct row *mines, struct row *rows) {
     size_t p = 0;
     for (size_t i = 0; i < nx; i += 4) p += x[i + 3];
@@ -427,7 +439,8 @@ static int from_ends(const uint64_t *x, size_t nx, const uint64_t *y, const stru
     return meet(r, single(0));
 }
 
-// One of two shapes while a common text is read: the positions that the text leads to, and those where its last character may stand.
+// One of two shapes while a common text is read: the positions that the text leads to, and those where its last
+// character may stand.
 struct side {
     const uint64_t *shape;
     struct laid laid;
@@ -475,8 +488,8 @@ struct found {
     struct row kept;
 };
 
-// Block i of X, position by position, until no character that it has and that is near, at a position of Y that the text leads to, would come sooner. What stands
-// beside several positions is joined once.
+// Block i of X, position by position, until no character that it has and that is near, at a position of Y that the text
+// leads to, would come sooner. What stands beside several positions is joined once.
 static inline struct found weigh_block(size_t i, const struct side *x, const struct side *y, struct base near, const struct row *mines, const struct row *rows, struct found f) {
     struct row left = both(x->row, x->laid.slots[i]), open = both(y->row, mines[i]), seen = none;
     if (!any(left)) return f;
@@ -494,7 +507,8 @@ static inline struct found weigh_block(size_t i, const struct side *x, const str
     return f;
 }
 
-// The earliest common text: from the positions that it leads to so far, the least character from which both ends are still reached.
+// The earliest common text: from the positions that it leads to so far, the least character from which both ends are
+// still reached.
 static uint64_t earliest(const uint64_t *x, size_t nx, const uint64_t *y, size_t ny, uint8_t *out) {
     struct side own, other;
     struct row mines[32], rows[251];
@@ -517,8 +531,9 @@ static uint64_t earliest(const uint64_t *x, size_t nx, const uint64_t *y, size_t
     return at;
 }
 
-// A stretch of one character in a fixed text, up to its place `to`, or the text's end: the character, those that part from it to the right side, at which
-// positions of the shape one can stay with it or part from it, and whether a text may end here.
+// A stretch of one character in a fixed text, up to its place `to`, or the text's end: the character, those that part
+// from it to the right side, at which positions of the shape one can stay with it or part from it, and whether a text
+// may end here.
 struct stretch {
     size_t to;
     uint64_t one[2], apart[2];
@@ -545,8 +560,9 @@ static void add(uint64_t *base, const uint64_t *more) {
     base[1] |= more[1];
 }
 
-// Narrows one shape by a fixed text. The first pass keeps for each place of the text the row of the positions reached with exactly the characters before it matched, as
-// far as any is; the second takes the rows of those from which some rest keeps to the right side. Past the least position where a text has parted, everything goes.
+// Narrows one shape by a fixed text. The first pass keeps for each place of the text the row of the positions reached
+// with exactly the characters before it matched, as far as any is; the second takes the rows of those from which some
+// rest keeps to the right side. Past the least position where a text has parted, everything goes.
 static uint64_t one_side(int upwards, int strict, const uint64_t *x, size_t nx, const uint8_t *text, size_t m, uint64_t *out) {
     struct laid laid;
     struct stretch s[33];

@@ -1,9 +1,10 @@
-// A host: reads a book from standard input, calls Wedgeotter and prints the report on standard output. A refused book is told on
-// standard error, and the program ends with 1; with 2 where reading or writing fails.
+// A host: reads a book from standard input, calls Wedgeotter and prints the report on standard output. A refused book
+// is told on standard error, and the program ends with 1; with 2 where reading or writing fails.
 #include "wedgeotter.h"
 #include <stdio.h>
 
-// One byte more than the largest book, so that a larger one is seen to be larger. The call wants some stack; these are not on it.
+// One byte more than the largest book, so that a larger one is seen to be larger. The call wants some stack; these are
+// not on it.
 static uint8_t book[WEDGEOTTER_BOOK + 1];
 static uint8_t report[WEDGEOTTER_REPORT];
 static uint8_t work[WEDGEOTTER_WORK];

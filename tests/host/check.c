@@ -1,9 +1,10 @@
-// The checking host: calls wedgeotter_run_file on each case of standard input and prints a line for what came of it. The head of
-// tests/second/second.py says what the lines hold.
+// The checking host: calls wedgeotter_run_file on each case of standard input and prints a line for what came of it.
+// The head of tests/second/second.py says what the lines hold.
 //
-// Each case is called four times: with the first byte of its three buffers right behind memory that may not be touched, and with
-// their last byte right before such memory; both over two fillings of report and work. The four lines have to be the same. Then two
-// threads at once call all cases again, on stacks with no more room than the header asks for, and have to come to the same lines.
+// Each case is called four times: with the first byte of its three buffers right behind memory that may not be touched,
+// and with their last byte right before such memory; both over two fillings of report and work. The four lines have to
+// be the same. Then two threads at once call all cases again, on stacks with no more room than the header asks for, and
+// have to come to the same lines.
 #include "checking.h"
 #include "wedgeotter.h"
 #include <pthread.h>
@@ -207,7 +208,8 @@ static void *alone(void *lent) {
     return NULL;
 }
 
-// All cases twice beside another thread: first both have one book at a time, then they go through the books from both ends.
+// All cases twice beside another thread: first both have one book at a time, then they go through the books from both
+// ends.
 static pthread_barrier_t abreast;
 static void *together(void *lent) {
     struct host *host = lent;

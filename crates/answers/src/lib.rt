@@ -40,7 +40,8 @@ pub enum Written {
     Refused(Refusal),
 }
 
-// What the quick sweep finds: places, written to the output, or that there cannot be a common text; each with the looks made.
+// What the quick sweep finds: places, written to the output, or that there cannot be a common text; each with the looks
+// made.
 pub enum Swept {
     Places(u64),
     Cannot(u64),
@@ -92,7 +93,8 @@ pub struct Index {
     pub at: u64,
 }
 
-// Where a mark first starts in the texts of a shape: in none of them, or in some, or in all, each with the least and the greatest index.
+// Where a mark first starts in the texts of a shape: in none of them, or in some, or in all, each with the least and
+// the greatest index.
 pub enum Sought {
     Nowhere,
     InSome(Index, Index),

@@ -1,18 +1,19 @@
--- Narrowing two lent shapes without regard to case, from what equality to the letter answers of both with both cases of their letters. Assumes nothing.
+-- Narrowing two lent shapes without regard to case, from what equality to the letter answers of both with both cases of
+-- their letters. Assumes nothing.
 use mathlib.Core.Path.{_≡_, sym, ap, ap₂, _∙_, subst₂}
 use mathlib.Core.Bool.{true, false, true≢false, false≢true}
 use mathlib.Core.List.{List, _++_}
-use Prim.Native.Nat.{ℕ, _/_, _%_, _^_, _≤_, _<_}
+use Prim.Native.Nat.{ℕ, _%_, _^_, _≤_, _<_}
 use native.Mathlib.Omega.{arith}
 use lib.ListN.{length, getD, take, drop, length-drop, length-append}
 use lib.Seq.{take-at, drop-at}
 use Rattle.texts.specs.Case.{AnyCase}
-use Rattle.shapes.specs.Shape.{Block, noBlock}
+use Rattle.shapes.specs.Shape.{Block, noBlock, blockSize, blockCount}
 use Rattle.shapes.specs.Lent.{Whole, shapeOf, wordsOf}
 use Rattle.shapes.proofs.Lent.{shape-length, shape-at}
 use Rattle.shapes.proofs.Numbers.{shape-words, words-length}
 use Rattle.shapes.proofs.Front.{front-length, front-size, front-at, front-out}
-use Rattle.rests.specs.Walk.{Same}
+use Rattle.walks.specs.Walk.{Same}
 use Rattle.pairs.specs.Narrow.{Narrows, NoPair, NarrowAnswer}
 use Rattle.case_blocks.specs.Case.{Widened, Wide, cutBlock, Cuts}
 use Rattle.case_blocks.specs.Code.{WidenedTo, CutTo}
@@ -21,13 +22,13 @@ use Rattle.case_texts.proofs.Hull.{case-none, case-hull}
 
 -- ---- with both cases
 
-module _ {xs w w′ : List ℕ} (room : length xs ≤ length w) (t : WidenedTo xs (length xs / 4) w w′) where
+module _ {xs w w′ : List ℕ} (room : length xs ≤ length w) (t : WidenedTo xs (blockCount xs) w w′) where
   long : length xs ≤ length w′
   long = let e = t .long in omega arith
 
   pub wide-shape : Wide (shapeOf xs) (shapeOf (take (length xs) w′))
   wide-shape = wide-of (shapeOf xs) (shapeOf (take (length xs) w′)) (front-size xs w′ long)
-      (λ i l. let h : i < length xs / 4 = let e = shape-length xs in omega arith in
+      (λ i l. let h : i < blockCount xs = let e = shape-length xs in omega arith in
       subst₂ Widened (sym (shape-at xs i noBlock h)) (sym (front-at xs w′ long i h)) (t .blocks i h))
 
   pub wide-length : length (take (length xs) w′) ≡ length xs
@@ -35,7 +36,7 @@ module _ {xs w w′ : List ℕ} (room : length xs ≤ length w) (t : WidenedTo x
 
 pub wide-whole : {xs xw : List ℕ} → Wide (shapeOf xs) (shapeOf xw) → length xw ≡ length xs → Whole xs → Whole xw
 wide-whole x e w = record {
-  blocks = ap (λ (n : ℕ). n % 4) e ∙ w .blocks;
+  blocks = ap (λ (n : ℕ). n % blockSize) e ∙ w .blocks;
   sound = wide-sound x (w .sound);
   short = let t = wide-total x in let s = w .short in omega arith;
 }
@@ -43,8 +44,8 @@ wide-whole x e w = record {
 -- ---- cut
 
 -- one side: J is what is left of the shape with both cases, and stands at the front of o; o′ is o cut
-module _ {xs o o′ : List ℕ} (ox : List ℕ) (J : List Block) (m : ℕ) (is : m ≡ length xs) (whole : length xs % 4 ≡ 0) (room : length xs ≤ length ox)
-    (size : length J ≡ length (shapeOf xs)) (written : o ≡ wordsOf J ++ drop m ox) (t : CutTo xs (length xs / 4) o o′) where
+module _ {xs o o′ : List ℕ} (ox : List ℕ) (J : List Block) (m : ℕ) (is : m ≡ length xs) (whole : length xs % blockSize ≡ 0) (room : length xs ≤ length ox)
+    (size : length J ≡ length (shapeOf xs)) (written : o ≡ wordsOf J ++ drop m ox) (t : CutTo xs (blockCount xs) o o′) where
   words-long : length (wordsOf J) ≡ length xs
   words-long = let a = words-length J in let b = shape-length xs in omega arith
 
@@ -65,7 +66,7 @@ module _ {xs o o′ : List ℕ} (ox : List ℕ) (J : List Block) (m : ℕ) (is :
 
   pub left-cuts : Cuts (shapeOf xs) J left
   left-cuts = cuts-of (shapeOf xs) J left size (front-size xs o′ long-o′)
-      (λ i l. let h : i < length xs / 4 = let e = shape-length xs in omega arith in
+      (λ i l. let h : i < blockCount xs = let e = shape-length xs in omega arith in
       front-at xs o′ long-o′ i h ∙ t .blocks i h
       ∙ ap₂ cutBlock (sym (shape-at xs i noBlock h)) (sym (front-at xs o long-o i h) ∙ ap (λ (S : List Block). getD S i noBlock) front))
 
@@ -81,8 +82,8 @@ module _ {xs ys xw yw : List ℕ} (x : Wide (shapeOf xs) (shapeOf xw)) (y : Wide
   pub says-none : {ox oy o p : List ℕ} → NoPair Same xw yw ox oy o p → NarrowAnswer AnyCase xs ys ox oy o p false
   says-none n = record { both = λ z. absurd (false≢true z); neither = λ z. record { none = case-none x y (n .none); first-output = n .first-output; second-output = n .second-output } }
 
-  pub says-some : {ox oy o p o′ p′ : List ℕ} → length xw ≡ length xs → length yw ≡ length ys → length xs % 4 ≡ 0 → length ys % 4 ≡ 0 → length xs ≤ length ox → length ys ≤ length oy
-      → Narrows Same xw yw ox oy o p → CutTo xs (length xs / 4) o o′ → CutTo ys (length ys / 4) p p′ → ((k : ℕ) → getD o′ k 0 < 2 ^ 64) → ((k : ℕ) → getD p′ k 0 < 2 ^ 64)
+  pub says-some : {ox oy o p o′ p′ : List ℕ} → length xw ≡ length xs → length yw ≡ length ys → length xs % blockSize ≡ 0 → length ys % blockSize ≡ 0 → length xs ≤ length ox → length ys ≤ length oy
+      → Narrows Same xw yw ox oy o p → CutTo xs (blockCount xs) o o′ → CutTo ys (blockCount ys) p p′ → ((k : ℕ) → getD o′ k 0 < 2 ^ 64) → ((k : ℕ) → getD p′ k 0 < 2 ^ 64)
       → NarrowAnswer AnyCase xs ys ox oy o′ p′ true
   says-some {ox} {oy} {o′ = o′} {p′ = p′} la lb wx wy rx ry n s t fx fy = record { both = λ z. narrows; neither = λ z. absurd (true≢false z) }
     where

@@ -11,8 +11,8 @@ ghost use Rattle.rows.specs.Steps.{InTurn, Together};
 ghost use Rattle.carries.specs.Climb.{Spans};
 ghost use Rattle.back_rows.specs.Rows.{Whenever, RowBack};
 
-// What is gathered on the way back: the row, where the block at hand takes characters beside Y, where runs of Y end early; of X, where its
-// runs end early and where it takes a character.
+// What is gathered on the way back: the row, where the block at hand takes characters beside Y, where runs of Y end
+// early; of X, where its runs end early and where it takes a character.
 pub struct Gathered {
     pub row: Set,
     pub used: Set,
@@ -21,7 +21,8 @@ pub struct Gathered {
     pub takes: Set,
 }
 
-// The row at o characters of a block at p, from the row after it: f is the row of the first pass, `stop` that of the block's end.
+// The row at o characters of a block at p, from the row after it: f is the row of the first pass, `stop` that of the
+// block's end.
 pub fn back_row(
     zones: &[u64],
     ends: &[u64],

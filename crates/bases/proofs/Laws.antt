@@ -1,4 +1,5 @@
--- The laws of a base: where its words' bits stand, when it is empty, and its least and greatest character. Assumes nothing.
+-- The laws of a base: where its words' bits stand, when it is empty, and its least and greatest character. Assumes
+-- nothing.
 use mathlib.Core.Path.{_≡_, refl, sym, ap, _∙_, subst}
 use mathlib.Core.List.{List, [], _∷_}
 use mathlib.Core.Logic.{_⊎_, inl, inr, ⊎-elim}
@@ -6,13 +7,13 @@ use Prim.Native.Nat.{ℕ, zero, suc, _+_, _-_, _*_, _/_, _%_, _^_, _≤_, _<_}
 use native.Mathlib.Nat.{zero-div, mod-lt, div-eq-of-lt, div-one, div-eq-of-lt-le, lt-of-lt-of-le, one-mul, pow-succ'}
 use native.Mathlib.Numerals.{add-one}
 use native.Mathlib.Omega.{arith}
-use lib.Arith.{bin-ind, digits-lt}
+use lib.Arith.{bin-ind}
 use lib.Bits.{block-half, block-odd}
 use lib.Count.{trailingZeros, under, leadingZeros, leading-top}
 use lib.Dec.{lit<}
 use lib.Pow.{pow-mono, shr-shr, shr-lt, high}
-use Rattle.bases.specs.Base.{baseOf, Holds, Empty, Least, Greatest, leastOf, greatestOf}
-use Rattle.bases.proofs.Plain.{lt-or-le, eq-or-ne}
+use Rattle.bases.specs.Base.{baseOf, Holds, Empty, Least, Greatest, codes, leastOf, greatestOf}
+use Rattle.plain.proofs.Plain.{lt-or-le, eq-or-ne}
 
 -- bit c + 1 of n is bit c of n / 2
 pub halved : (n c : ℕ) → n / 2 ^ suc c % 2 ≡ n / 2 / 2 ^ c % 2
@@ -45,20 +46,6 @@ pub next-words : (w c : ℕ) (ws : List ℕ) → w < 2 ^ 64 → baseOf (w ∷ ws
 unfolding baseOf
 next-words w c ws h = ap (λ (x : ℕ). x % 2) (sym (shr-shr (baseOf (w ∷ ws)) 64 c) ∙ ap (λ (x : ℕ). x / 2 ^ c) (high (baseOf ws) 64 h))
 
--- the second of two words, at a character of 64 or more
-pub second-word : (w v c : ℕ) → w < 2 ^ 64 → 64 ≤ c → baseOf (w ∷ (v ∷ [])) / 2 ^ c % 2 ≡ v / 2 ^ (c - 64) % 2
-second-word w v c h l =
-    let back : c ≡ 64 + (c - 64) = omega arith in
-    ap (λ (x : ℕ). baseOf (w ∷ (v ∷ [])) / 2 ^ x % 2) back ∙ next-words w (c - 64) (v ∷ []) h ∙ ap (λ (x : ℕ). x / 2 ^ (c - 64) % 2) (one-word v)
-
--- two words hold no byte above 127
-pub no-word : (w v c : ℕ) → w < 2 ^ 64 → v < 2 ^ 64 → 128 ≤ c → Holds (baseOf (w ∷ (v ∷ []))) c → ⊥
-unfolding Holds
-no-word w v c hw hv l e =
-    let high : 64 ≤ c - 64 = omega arith in
-    let gone : v / 2 ^ (c - 64) ≡ 0 = div-eq-of-lt (lt-of-lt-of-le hv (pow-mono high)) in
-    not-one (sym (ap (λ (x : ℕ). x % 2) gone) ∙ sym (second-word w v c hw (omega arith)) ∙ e)
-
 -- ---- an empty base is the number 0
 
 pub none-in-zero : Empty 0
@@ -75,17 +62,9 @@ empty-zero = bin-ind (λ (b : ℕ). Empty b → b ≡ 0) (λ _. refl) step
         let even : n % 2 ≡ 1 → ⊥ = λ h. e 0 (ap (λ (x : ℕ). x % 2) (div-one n) ∙ h) in
         omega (arith, mod-lt n {m = 2} (lit< tt))
 
-pub words-empty : (w v : ℕ) → w ≡ 0 → v ≡ 0 → Empty (baseOf (w ∷ (v ∷ [])))
-unfolding baseOf
-words-empty w v p q = rw (p, q) none-in-zero
-
-pub empty-words : (w v : ℕ) → Empty (baseOf (w ∷ (v ∷ []))) → (w ≡ 0) × (v ≡ 0)
-unfolding baseOf
-empty-words w v e = let z = empty-zero _ e in omega arith
-
 -- ---- the lowest set bit
 
-below-two : (n : ℕ) → (n % 2 ≡ 0) ⊎ (n % 2 ≡ 1)
+pub below-two : (n : ℕ) → (n % 2 ≡ 0) ⊎ (n % 2 ≡ 1)
 below-two n = ⊎-elim (λ h. inl h) (λ h. inr (omega (arith, mod-lt n {m = 2} (lit< tt)))) (eq-or-ne (n % 2) 0)
 
 -- t is the place of the lowest set bit of n
@@ -180,10 +159,6 @@ greatest-next w t ws h g = record { held = next-words w t ws h ∙ g .held; grea
         let h = g .greatest (d - 64) (sym (next-words w (d - 64) ws h) ∙ ap (λ (x : ℕ). baseOf (w ∷ ws) / 2 ^ x % 2) back ∙ e) in omega arith)
         (lt-or-le d 64)
 
-pub no-words-after : (w : ℕ) → baseOf (w ∷ (0 ∷ [])) ≡ w
-unfolding baseOf
-no-words-after w = omega arith
-
 -- ---- the least and the greatest character, as numbers
 
 pub least-one : {b c d : ℕ} → Least b c → Least b d → c ≡ d
@@ -192,21 +167,17 @@ least-one l m = let h = l .least _ (m .held) in let g = m .least _ (l .held) in 
 pub greatest-one : {b c d : ℕ} → Greatest b c → Greatest b d → c ≡ d
 greatest-one l m = let h = l .greatest _ (m .held) in let g = m .greatest _ (l .held) in omega arith
 
-pub least-of : (b : ℕ) → b < 2 ^ 128 → (Empty b → ⊥) → Least b (leastOf b)
+pub least-of : (b : ℕ) → b < 2 ^ codes → (Empty b → ⊥) → Least b (leastOf b)
 unfolding leastOf Holds
 least-of b h n =
-    let l = lowest 128 b h (λ z. n (subst Empty (sym z) none-in-zero)) .0 in
+    let l = lowest codes b h (λ z. n (subst Empty (sym z) none-in-zero)) .0 in
     record { held = l .set; least = l .clear }
 
-pub greatest-of : (b : ℕ) → b < 2 ^ 128 → (Empty b → ⊥) → Greatest b (greatestOf b)
+pub greatest-of : (b : ℕ) → b < 2 ^ codes → (Empty b → ⊥) → Greatest b (greatestOf b)
 unfolding greatestOf Holds
 greatest-of b h n =
     let nz : b ≡ 0 → ⊥ = λ z. n (subst Empty (sym z) none-in-zero) in
-    let t = leading-top 128 b (omega (arith, nz)) h in
-    let place : t .0 ≡ 127 - leadingZeros 128 b = let e = t .1 in omega arith in
+    let t = leading-top codes b (omega (arith, nz)) h in
+    let place : t .0 ≡ codes - 1 - leadingZeros codes b = let e = t .1 in omega arith in
     let g : Greatest b (t .0) = record { held = highest-set (t .0) b (t .2) (t .3); greatest = none-above (t .0) b (t .3) } in
     rw place at g
-
-pub words-bound : (w v : ℕ) → w < 2 ^ 64 → v < 2 ^ 64 → baseOf (w ∷ (v ∷ [])) < 2 ^ 128
-unfolding baseOf
-words-bound w v h g = digits-lt (subst (λ (x : ℕ). x < 2 ^ 64) (sym (one-word v)) g) h

@@ -1,5 +1,4 @@
--- The laws of bases that other crates cite, and the few plain facts that all crates use.
+-- The laws of bases that other crates cite.
 pub mod Laws
-pub mod Plain
-pub mod Tells
 pub mod Sets
+pub mod Words

@@ -1,24 +1,16 @@
--- Bases as sets: equal by their characters; what two share and what either holds, and whether they meet. Assumes nothing.
+-- Bases as sets: equal by their characters; what two share and what either holds, and whether they meet. Assumes
+-- nothing.
 use mathlib.Core.Path.{_≡_, refl, sym, ap, ap₂, _∙_}
 use mathlib.Core.Logic.{_⊎_, inl, inr, ⊎-elim}
-use Prim.Native.Nat.{ℕ, zero, suc, _/_, _%_, _^_, _≤_, _<_}
-use native.Mathlib.Nat.{mod-lt, div-one}
+use Prim.Native.Nat.{ℕ, suc, _/_, _%_, _^_, _≤_, _<_}
+use native.Mathlib.Nat.{div-one, lt-of-le-of-lt}
 use native.Mathlib.Omega.{arith}
 use lib.Arith.{bin-ind}
-use lib.Bits.{bitAnd, bitOr, and-shr, and-mod, or-shr, or-mod, and-zero-l, or-zero-l}
-use lib.Dec.{lit<}
+use lib.Bits.{bitAnd, bitOr, and-shr, and-mod, or-shr, or-mod, and-zero-l, or-zero-l, and-le-l}
 use Rattle.bases.specs.Base.{Holds, Empty, Meets}
-use Rattle.bases.proofs.Laws.{halved, empty-zero, none-in-zero}
+use Rattle.bases.proofs.Laws.{halved, below-two, empty-zero, none-in-zero}
 
 -- ---- two bases that hold the same characters are the same number
-
-bit-cases : (n : ℕ) → (n % 2 ≡ 0) ⊎ (n % 2 ≡ 1)
-bit-cases n = go (n % 2) (mod-lt n {m = 2} (lit< tt))
-  where
-    go : (x : ℕ) → x < 2 → (x ≡ 0) ⊎ (x ≡ 1)
-    go zero h = inl refl
-    go (suc zero) h = inr refl
-    go (suc (suc x)) h = absurd (omega arith)
 
 pub same-base : (a b : ℕ) → ((c : ℕ) → Holds a c → Holds b c) → ((c : ℕ) → Holds b c → Holds a c) → a ≡ b
 unfolding Holds
@@ -37,8 +29,8 @@ same-base = bin-ind (λ (a : ℕ). (b : ℕ) → ((c : ℕ) → Holds a c → Ho
         let to : a % 2 ≡ 1 → b % 2 ≡ 1 = λ h. sym (low b) ∙ f 0 (low a ∙ h) in
         let from : b % 2 ≡ 1 → a % 2 ≡ 1 = λ h. sym (low a) ∙ g 0 (low b ∙ h) in
         let bits : a % 2 ≡ b % 2 = ⊎-elim
-        (λ za. ⊎-elim (λ zb. za ∙ sym zb) (λ ob. from ob ∙ sym ob) (bit-cases b))
-        (λ oa. oa ∙ sym (to oa)) (bit-cases a) in
+        (λ za. ⊎-elim (λ zb. za ∙ sym zb) (λ ob. from ob ∙ sym ob) (below-two b))
+        (λ oa. oa ∙ sym (to oa)) (below-two a) in
         omega arith
 
 -- a base whose characters another has is at most that number
@@ -52,7 +44,7 @@ within-most = bin-ind (λ (a : ℕ). (b : ℕ) → ((c : ℕ) → Holds a c → 
     step : (a : ℕ) → ((b : ℕ) → ((c : ℕ) → Holds (a / 2) c → Holds b c) → a / 2 ≤ b) → (b : ℕ) → ((c : ℕ) → Holds a c → Holds b c) → a ≤ b
     step a ih b f =
         let halves : a / 2 ≤ b / 2 = ih (b / 2) (λ c h. sym (halved b c) ∙ f (suc c) (halved a c ∙ h)) in
-        ⊎-elim (λ z. omega arith) (λ o. let one : b % 2 ≡ 1 = sym (low b) ∙ f 0 (low a ∙ o) in omega arith) (bit-cases a)
+        ⊎-elim (λ z. omega arith) (λ o. let one : b % 2 ≡ 1 = sym (low b) ∙ f 0 (low a ∙ o) in omega arith) (below-two a)
 
 -- ---- what two bases share, and what either holds
 
@@ -71,7 +63,7 @@ bit-and x y (inr p) (inr q) h = (p, q)
 
 pub shared : (a b c : ℕ) → Holds (bitAnd a b) c → Holds a c × Holds b c
 unfolding Holds
-shared a b c h = bit-and _ _ (bit-cases (a / 2 ^ c)) (bit-cases (b / 2 ^ c)) (sym (bits-of bitAnd and-shr and-mod a b c) ∙ h)
+shared a b c h = bit-and _ _ (below-two (a / 2 ^ c)) (below-two (b / 2 ^ c)) (sym (bits-of bitAnd and-shr and-mod a b c) ∙ h)
 
 bit-or : (x y : ℕ) → (x ≡ 0) ⊎ (x ≡ 1) → (y ≡ 0) ⊎ (y ≡ 1) → bitOr x y ≡ 1 → (x ≡ 1) ⊎ (y ≡ 1)
 bit-or x y (inl p) q h = inr (sym (ap (λ (v : ℕ). bitOr v y) p ∙ or-zero-l y) ∙ h)
@@ -79,7 +71,7 @@ bit-or x y (inr p) q h = inl p
 
 pub either : (a b c : ℕ) → Holds (bitOr a b) c → Holds a c ⊎ Holds b c
 unfolding Holds
-either a b c h = bit-or _ _ (bit-cases (a / 2 ^ c)) (bit-cases (b / 2 ^ c)) (sym (bits-of bitOr or-shr or-mod a b c) ∙ h)
+either a b c h = bit-or _ _ (below-two (a / 2 ^ c)) (below-two (b / 2 ^ c)) (sym (bits-of bitOr or-shr or-mod a b c) ∙ h)
 
 or-first : (y : ℕ) → (y ≡ 0) ⊎ (y ≡ 1) → bitOr 1 y ≡ 1
 or-first y (inl q) = ap (bitOr 1) q
@@ -91,11 +83,11 @@ or-second x (inr q) = ap (λ (v : ℕ). bitOr v 1) q
 
 pub in-first : (a b c : ℕ) → Holds a c → Holds (bitOr a b) c
 unfolding Holds
-in-first a b c h = bits-of bitOr or-shr or-mod a b c ∙ ap (λ (x : ℕ). bitOr x (b / 2 ^ c % 2)) h ∙ or-first _ (bit-cases (b / 2 ^ c))
+in-first a b c h = bits-of bitOr or-shr or-mod a b c ∙ ap (λ (x : ℕ). bitOr x (b / 2 ^ c % 2)) h ∙ or-first _ (below-two (b / 2 ^ c))
 
 pub in-second : (a b c : ℕ) → Holds b c → Holds (bitOr a b) c
 unfolding Holds
-in-second a b c h = bits-of bitOr or-shr or-mod a b c ∙ ap (λ (x : ℕ). bitOr (a / 2 ^ c % 2) x) h ∙ or-second _ (bit-cases (a / 2 ^ c))
+in-second a b c h = bits-of bitOr or-shr or-mod a b c ∙ ap (λ (x : ℕ). bitOr (a / 2 ^ c % 2) x) h ∙ or-second _ (below-two (a / 2 ^ c))
 
 -- ---- whether two bases meet
 
@@ -107,7 +99,7 @@ some-held = bin-ind (λ (b : ℕ). (b ≡ 0 → ⊥) → (c : ℕ) × Holds b c)
     step : (n : ℕ) → ((n / 2 ≡ 0 → ⊥) → (c : ℕ) × Holds (n / 2) c) → (n ≡ 0 → ⊥) → (c : ℕ) × Holds n c
     step n ih nz = ⊎-elim
         (λ z. let r = ih (λ h. nz (omega arith)) in (suc (r .0), halved n (r .0) ∙ r .1))
-        (λ o. (0, ap (λ (x : ℕ). x % 2) (div-one n) ∙ o)) (bit-cases n)
+        (λ o. (0, ap (λ (x : ℕ). x % 2) (div-one n) ∙ o)) (below-two n)
 
 pub meets-of : (a b : ℕ) → (bitAnd a b ≡ 0 → ⊥) → Meets a b
 meets-of a b nz = let h = some-held (bitAnd a b) nz in let p = shared a b (h .0) (h .1) in record { shared = h .0; first = p .0; second = p .1 }
@@ -115,3 +107,10 @@ meets-of a b nz = let h = some-held (bitAnd a b) nz in let p = shared a b (h .0)
 pub meets-not : (a b : ℕ) → bitAnd a b ≡ 0 → Meets a b → ⊥
 unfolding Empty
 meets-not a b z m = none-in-zero (m .shared) (rw z at (both a b (m .shared) (m .first) (m .second)))
+
+pub turned : {a b : ℕ} → Meets a b → Meets b a
+turned m = record { shared = m .shared; first = m .second; second = m .first }
+
+-- what is cut stays small
+pub cut-small : (k x y : ℕ) {n : ℕ} → n ≡ bitAnd x y → x < 2 ^ k → n < 2 ^ k
+cut-small k x y d h = rw d (lt-of-le-of-lt (and-le-l x y) h)

@@ -1,7 +1,8 @@
--- Document 01, "Shapes and fillings": a base is a set of characters, lent as 64-bit numbers: bit k of the first for code k, of the next for code 64 + k.
+-- Document 01, "Shapes and fillings": a base is a set of characters, lent as 64-bit numbers: bit k of the first for
+-- code k, of the next for code 64 + k.
 use mathlib.Core.Path.{_≡_}
 use mathlib.Core.List.{List, [], _∷_}
-use Prim.Native.Nat.{ℕ, _+_, _-_, _*_, _/_, _%_, _^_, _≤_}
+use Prim.Native.Nat.{ℕ, zero, suc, _+_, _-_, _*_, _/_, _%_, _^_, _≤_, _<_}
 use lib.Count.{trailingZeros, leadingZeros}
 
 -- the base that some words, the lowest codes first, stand for: one number with a bit for each code
@@ -33,9 +34,22 @@ pub record Greatest (b c : ℕ) : Type 0 where
   pub held : Holds b c
   pub greatest : (d : ℕ) → Holds b d → d ≤ c
 
--- characters have codes below this: a base is lent as two words
+-- a base is lent as so many words: characters have codes below this
+abbrev pub baseWords : ℕ
+baseWords = 2
+
 abbrev pub codes : ℕ
-codes = 128
+codes = baseWords * 64
+
+-- lent words are 64-bit numbers
+abbrev pub Word : ℕ → Type 0
+Word w = w < 2 ^ 64
+
+-- a base as so many words; the last has what the others leave
+unfoldable pub wordsIn : ℕ → ℕ → List ℕ
+wordsIn zero b = []
+wordsIn (suc zero) b = b ∷ []
+wordsIn (suc (suc n)) b = b % 2 ^ 64 ∷ wordsIn (suc n) (b / 2 ^ 64)
 
 -- the least and the greatest character, as numbers: by the zeros below the lowest set bit and above the highest
 unfoldable pub leastOf : ℕ → ℕ

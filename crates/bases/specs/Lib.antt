@@ -1,3 +1,2 @@
--- What a base is, and what an answer of true or false tells.
+-- What a base is.
 pub mod Base
-pub mod Tells

@@ -39,7 +39,8 @@ pub extern "C" fn wedgeotter_greatest(shape: &[u64], out: &mut [u8]) -> u64 {
     written(dashed::greatest_text(shape, out))
 }
 
-// Both indices in one number, with 1000000 more where some text lacks the mark; 0 for nowhere, and 1000, as here no indices are, for a refusal.
+// Both indices in one number, with 1000000 more where some text lacks the mark; 0 for nowhere, and 1000, as here no
+// indices are, for a refusal.
 #[no_mangle]
 pub extern "C" fn wedgeotter_find(shape: &[u64], mark: &[u8]) -> u64 {
     match dashed::find(shape, mark) {

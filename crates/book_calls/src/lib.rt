@@ -1,4 +1,5 @@
-// A book checked and run: its rules applied in their order, round after round, until one says none or a round changes nothing.
+// A book checked and run: its rules applied in their order, round after round, until one says none or a round changes
+// nothing.
 use answers::Checked;
 use answers::Ran;
 use book_runs::Ended;
@@ -7,7 +8,7 @@ ghost use Prim.Native.Nat.{_<_};
 ghost use Rattle.rules.specs.Rule.{ruleCount};
 ghost use Rattle.book_steps.specs.Step.{Running, AppliedSays};
 ghost use Rattle.book_runs.specs.Rounds.{RunPromise};
-ghost use Rattle.book_runs.specs.Runner.{EndedSays};
+ghost use Rattle.book_runs.specs.Runner.{EndedSays, RunLeft};
 
 // Applies rule j to the numbers so far.
 fn apply_rule(counts: &[u64], numbers: &mut [u64], rules: &[u64], j: usize) -> Applied
@@ -55,7 +56,24 @@ fn run_rounds(counts: &[u64], numbers: &mut [u64], rules: &[u64]) -> Ended
     }
 }
 
-// Runs a book: the final shapes are left in the lent blocks, or none, and then the blocks are as on entry.
+// The run of an accepted book: the final shapes are left in the blocks, or none, and then the blocks are as on entry.
+pub fn run_accepted(counts: &[u64], blocks: &mut [u64], rules: &[u64]) -> Ended
+    requires { ⌜ Running (now counts) (now blocks) (now rules) ⌝ }
+    ensures { λ r. ⌜ RunLeft (now (counts .entry)) (now (rules .entry)) (now (blocks .entry)) (now (blocks .exit)) r ⌝ }
+{
+    let n = blocks.len();
+    let mut numbers = [0u64; rules::BLOCKS * shapes::SIZE];
+    laying::lay(&mut numbers, 0, blocks);
+    match run_rounds(counts, &mut numbers[..n], rules) {
+        Ended::None(m) => Ended::None(m),
+        Ended::Stable(m) => {
+            laying::lay(blocks, 0, &numbers[..n]);
+            Ended::Stable(m)
+        }
+    }
+}
+
+// Runs a book: its refusals first, then its run.
 pub fn run_book(counts: &[u64], blocks: &mut [u64], rules: &[u64], work: &mut [u8]) -> Ran
     ensures { λ r. ⌜ RunPromise (now (counts .entry)) (now (blocks .entry)) (now (rules .entry)) (now (work .entry)) (now (blocks .exit)) (now (work .exit)) r ⌝ }
 {
@@ -63,15 +81,9 @@ pub fn run_book(counts: &[u64], blocks: &mut [u64], rules: &[u64], work: &mut [u
         Checked::Refused(r) => Ran::Refused(r),
         Checked::Sound => {
             pairs::clear(work);
-            let n = blocks.len();
-            let mut numbers = [0u64; 1024];
-            laying::lay(&mut numbers, 0, blocks);
-            match run_rounds(counts, &mut numbers[..n], rules) {
+            match run_accepted(counts, blocks, rules) {
                 Ended::None(m) => Ran::None(m),
-                Ended::Stable(m) => {
-                    laying::lay(blocks, 0, &numbers[..n]);
-                    Ran::Stable(m)
-                }
+                Ended::Stable(m) => Ran::Stable(m),
             }
         }
     }

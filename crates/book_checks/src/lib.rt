@@ -1,9 +1,10 @@
-// Which lent numbers are a book of rules, and why others are refused: the counts, the texts, the rules, the work buffer.
+// Which lent numbers are a book of rules, and why others are refused: the counts, the texts, the rules, the work
+// buffer.
 use answers::Checked;
 use answers::Refusal;
 use rules::Rule;
 ghost use mathlib.Core.Path.{_≡_};
-ghost use Rattle.bases.specs.Tells.{Tells};
+ghost use Rattle.plain.specs.Tells.{Tells};
 ghost use Rattle.shapes.specs.Lent.{shapeOf};
 ghost use Rattle.shapes.specs.Shape.{total};
 ghost use Rattle.books.specs.Counts.{shapeIn};
@@ -73,7 +74,8 @@ fn check_rules(counts: &[u64], blocks: &[u64], rules: &[u64]) -> Checked
     Checked::Sound
 }
 
-// Whether a book is accepted, for a work buffer of `room` bytes: refusals 6, those of the texts, those of the rules, and 4, in this order.
+// Whether a book is accepted, for a work buffer of `room` bytes: refusals 6, those of the texts, those of the rules,
+// and 4, in this order.
 pub fn check_book(counts: &[u64], blocks: &[u64], rules: &[u64], room: usize) -> Checked
     ensures { λ r. ⌜ BookChecked (now (counts .entry)) (now (blocks .entry)) (now (rules .entry)) room r ⌝ }
 {

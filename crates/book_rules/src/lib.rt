@@ -1,6 +1,6 @@
 // Whether a rule of a book is right. The numbers may be any.
 use rules::Rule;
-ghost use Rattle.bases.specs.Tells.{Tells};
+ghost use Rattle.plain.specs.Tells.{Tells};
 ghost use Rattle.books.specs.Rules.{Names, RightFourth, RightRule};
 
 // Whether k is a text's number.

@@ -1,24 +1,18 @@
--- For any one input, two permitted outcomes of a book's run are equal: the answer with its count or refusal, and every lent cell. Assumes nothing.
+-- For any one input, two permitted outcomes of a book's run are equal: the answer with its count or refusal, and every
+-- lent cell. Assumes nothing.
 use mathlib.Core.Path.{_≡_, sym, ap, _∙_}
 use mathlib.Core.List.{List}
 use Prim.Native.Nat.{ℕ}
-use native.Mathlib.Omega.{arith}
 use Rattle.answers.proofs.Told.{told-one}
 use Rattle.answers.specs.declared.Ran.{Ran}
 use Rattle.answers.specs.declared.Ran.the-variants.{Stable, None, Refused}
 use Rattle.shapes.specs.Shape.{Block}
 use Rattle.shapes.specs.Lent.{wordsOf}
-use Rattle.hulls.specs.Hull.{none, shapes}
+use Rattle.hulls.specs.Hull.{shapes}
 use Rattle.books.proofs.Refused.{book-one, book-not}
+use Rattle.hulls.proofs.Hull.{same-shapes, not-none}
 use Rattle.book_runs.specs.Rounds.{RunPromise}
 use Rattle.book_runs.proofs.Rounds.{walk-one}
-
--- an outcome is none, or some shapes
-pub same-shapes : {H J : List Block} → shapes H ≡ shapes J → H ≡ J
-same-shapes e = cc
-
-pub not-none : {H : List Block} → none ≡ shapes H → ⊥
-not-none e = let z : _≡_ {A = ℕ} 0 1 = cc in omega arith
 
 pub run-determined : (counts blocks rules work b b′ w w′ : List ℕ) (x y : Ran)
     → RunPromise counts blocks rules work b w x → RunPromise counts blocks rules work b′ w′ y → (x ≡ y) × (b ≡ b′) × (w ≡ w′)

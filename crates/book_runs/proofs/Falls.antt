@@ -9,10 +9,10 @@ use lib.Dec.{lit<}
 use lib.ListN.{length}
 use lib.Pow.{shr-lt}
 use native.Mathlib.Numerals.{add-one}
-use Rattle.bases.specs.Base.{Holds, Empty}
-use Rattle.bases.proofs.Plain.{lt-or-le, eq-or-ne}
+use Rattle.bases.specs.Base.{Holds, Empty, codes}
+use Rattle.plain.proofs.Plain.{lt-or-le, eq-or-ne}
 use Rattle.bases.proofs.Laws.{empty-zero, none-in-zero}
-use Rattle.shapes.specs.All.{All, more}
+use Rattle.plain.specs.All.{All, more}
 use Rattle.shapes.specs.Shape.{Block, Sound, Small}
 use Rattle.hulls.specs.Hull.{Hull}
 use Rattle.hulls.specs.Book.{Inside, Within, end, next}
@@ -61,18 +61,18 @@ same-block a b = ⊎-elim
     (λ p. inr (λ e. p (ap (λ (x : Block). x .base) e)))
     (eq-or-ne (a .base) (b .base))
 
-inside-falls : {h b : Block} → Sound h → Small b → Inside h b → (h ≡ b → ⊥) → held 128 (h .base) + (h .upper - h .lower) < held 128 (b .base) + (b .upper - b .lower)
+inside-falls : {h b : Block} → Sound h → Small b → Inside h b → (h ≡ b → ⊥) → held codes (h .base) + (h .upper - h .lower) < held codes (b .base) + (b .upper - b .lower)
 inside-falls {h} {b} s k p d =
     let lower = p .lower in
     let upper = p .upper in
     let ordered = s .ordered in
-    let less = held-less 128 (h .base) (b .base) (p .base) in
+    let less = held-less codes (h .base) (b .base) (p .base) in
     ⊎-elim
     (λ e. ⊎-elim
     (λ f. let other : h .upper ≡ b .upper → ⊥ = λ g. d (block-path e f g) in omega arith)
     (λ f. omega arith)
     (eq-or-ne (h .lower) (b .lower)))
-    (λ e. let falls = held-falls 128 (h .base) (b .base) k (p .base) e in omega arith)
+    (λ e. let falls = held-falls codes (h .base) (b .base) k (p .base) e in omega arith)
     (eq-or-ne (h .base) (b .base))
 
 pub within-room : {H S : List Block} → Within H S → roomOf H ≤ roomOf S
@@ -81,7 +81,7 @@ within-room end = omega arith
 within-room (next {h} {b} p w) =
     let lower = p .lower in
     let upper = p .upper in
-    let less = held-less 128 (h .base) (b .base) (p .base) in
+    let less = held-less codes (h .base) (b .base) (p .base) in
     let rest = within-room w in
     omega arith
 
@@ -93,15 +93,15 @@ within-falls (more s r) (more k l) (next {h} {b} {H} {S} p w) d = ⊎-elim
     let rest = within-falls r l w (λ f. d (λ i. e i ∷ f i)) in
     let lower = p .lower in
     let upper = p .upper in
-    let less = held-less 128 (h .base) (b .base) (p .base) in
+    let less = held-less codes (h .base) (b .base) (p .base) in
     omega arith)
     (λ e. let first = inside-falls s k p e in let rest = within-room w in omega arith)
     (same-block h b)
 
-pub room-bound : {S : List Block} → All Sound S → roomOf S ≤ length S * 378
+pub room-bound : {S : List Block} → All Sound S → roomOf S ≤ length S * (codes + 250)
 unfolding roomOf
 room-bound All.none = omega arith
-room-bound (more {a = b} s r) = let h = room-bound r in let g = held-most 128 (b .base) in let u = s .small in omega arith
+room-bound (more {a = b} s r) = let h = room-bound r in let g = held-most codes (b .base) in let u = s .small in omega arith
 
 -- each application that changes something leaves less room
 pub hull-falls : {P : List (List ℕ) → Type 0} {S H : List Block} → All Sound S → All Small S → Hull P S H → (H ≡ S → ⊥) → roomOf H < roomOf S

@@ -1,4 +1,5 @@
--- The runner's steps forward, as its code takes them: each keeps what it has made, and the ends give the outcome. Assumes nothing.
+-- The runner's steps forward, as its code takes them: each keeps what it has made, and the ends give the outcome.
+-- Assumes nothing.
 use mathlib.Core.Path.{_≡_, sym, subst}
 use mathlib.Core.Bool.{Bool, true, false}
 use mathlib.Core.List.{List}
@@ -7,9 +8,11 @@ use native.Mathlib.Nat.{mul-le-mul-left, mul-suc, zero-add, add-zero}
 use native.Mathlib.Numerals.{add-one}
 use native.Mathlib.Omega.{arith}
 use lib.ListN.{length}
-use Rattle.shapes.specs.All.{All}
+use Rattle.plain.specs.All.{All}
 use Rattle.shapes.specs.Shape.{Block, Sound, Small}
 use Rattle.hulls.specs.Hull.{None, Hull, Outcome, none, shapes}
+use Rattle.rules.specs.Limits.{mostRules, bookBlocks}
+use Rattle.bases.specs.Base.{codes}
 use Rattle.book_runs.specs.Room.{roomOf}
 use Rattle.book_runs.specs.Rounds.{Rounds}
 use Rattle.book_runs.specs.Rounds.Rounds.{stops, keeps, changes, round, rests}
@@ -64,10 +67,10 @@ module _ {n : ℕ} {P : ℕ → List (List ℕ) → Type 0} {Z : List Block} whe
       subst (Rounds n P Z 0 false (shapes S)) (add-zero m) (still .ahead (shapes S) zero (rests e))
 
 -- so it counts within a machine's number
-pub made-count : {n : ℕ} {P : ℕ → List (List ℕ) → Type 0} {Z S : List Block} {k : ℕ} {c : Bool} {m : ℕ} → Made n P Z S k c m → k ≤ n → n ≤ 16 → length Z ≤ 256
-    → All Sound Z → m ≤ 1548304
+pub made-count : {n : ℕ} {P : ℕ → List (List ℕ) → Type 0} {Z S : List Block} {k : ℕ} {c : Bool} {m : ℕ} → Made n P Z S k c m → k ≤ n → n ≤ mostRules → length Z ≤ bookBlocks
+    → All Sound Z → m ≤ mostRules * (bookBlocks * (codes + 250)) + mostRules
 made-count {n} {Z} d h f g s =
     let most = made-most d h in
     let room = room-bound s in
-    let r : n * roomOf Z ≤ n * 96768 = mul-le-mul-left n (omega arith) in
+    let r : n * roomOf Z ≤ n * (bookBlocks * (codes + 250)) = mul-le-mul-left n (omega arith) in
     omega arith

@@ -12,8 +12,9 @@ abbrev pub owed : Bool → ℕ → ℕ
 owed true n = n
 owed false n = 0
 
--- The runner began with the blocks Z and has made m applications. Now it has the blocks S, before rule k of a round that has changed something exactly if c is true.
--- Whatever it goes on to from here is an outcome from Z, and it cannot have made more applications than the room that is gone pays for.
+-- The runner began with the blocks Z and has made m applications. Now it has the blocks S, before rule k of a round
+-- that has changed something exactly if c is true. Whatever it goes on to from here is an outcome from Z, and it cannot
+-- have made more applications than the room that is gone pays for.
 pub record Made (n : ℕ) (P : ℕ → List (List ℕ) → Type 0) (Z S : List Block) (k : ℕ) (c : Bool) (m : ℕ) : Type 0 where
   pub ahead : (o : Outcome) (l : ℕ) → Rounds n P S k c o l → Rounds n P Z 0 false o (m + l)
   pub few : m + owed c n + n * roomOf S ≤ n * roomOf Z + k

@@ -16,8 +16,8 @@ use Rattle.books.specs.Rules.{ruleOf}
 use Rattle.books.specs.Refused.{BookRefused, BookAccepted}
 
 -- The runner applies the n rules in book order, round after round, each on the blocks so far.
--- `Rounds n P S k c o m`: with the blocks S, before rule k, from 0, of a round that has changed something exactly if c is true,
--- it goes on to the outcome o and makes m more applications, the last included.
+-- `Rounds n P S k c o m`: with the blocks S, before rule k, from 0, of a round that has changed something exactly if c
+-- is true, it goes on to the outcome o and makes m more applications, the last included.
 pub data Rounds (n : ℕ) (P : ℕ → List (List ℕ) → Type 0) : List Block → ℕ → Bool → Outcome → ℕ → Type 0 where
   -- it stops at the first none
   stops : {S : List Block} {k : ℕ} {c : Bool} → k < n → None (P k) S → Rounds n P S k c none (suc zero)

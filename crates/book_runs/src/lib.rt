@@ -1,4 +1,5 @@
-// The run of a book, rules in book order, round after round, each on the shapes so far: how it ends, definitions and laws.
+// The run of a book, rules in book order, round after round, each on the shapes so far: how it ends, definitions and
+// laws.
 
 // How the rounds end: with stable numbers or with none; each with the applications made.
 pub enum Ended {

@@ -1,10 +1,11 @@
--- A rule of a book narrows the texts that it looks at as it does alone, wherever they lie, and leaves the others. Both ways. Assumes nothing.
+-- A rule of a book narrows the texts that it looks at as it does alone, wherever they lie, and leaves the others. Both
+-- ways. Assumes nothing.
 use mathlib.Core.Path.{_≡_, sym, _∙_, subst, subst₂}
 use mathlib.Core.List.{List, []}
 use mathlib.Core.Logic.{_↔_}
 use Prim.Native.Nat.{ℕ, _<_}
 use lib.ListN.{length}
-use Rattle.shapes.specs.All.{All}
+use Rattle.plain.specs.All.{All}
 use Rattle.shapes.specs.Shape.{Block, Sound, Filling, noBlock}
 use Rattle.hulls.specs.Hull.{None, Hull}
 use Rattle.hulls.proofs.Fill.{filling-size}

@@ -1,4 +1,5 @@
--- Which texts a right rule looks at, and what it asks of their runs end to end: two texts and their relation, or, in a join, three. Assumes nothing.
+-- Which texts a right rule looks at, and what it asks of their runs end to end: two texts and their relation, or, in a
+-- join, three. Assumes nothing.
 use mathlib.Core.Path.{_≡_, sym, subst}
 use mathlib.Core.List.{List, [], _∷_, _++_, append-nil}
 use mathlib.Core.Logic.{_↔_}
@@ -6,7 +7,7 @@ use Prim.Native.Nat.{ℕ}
 use lib.ListN.{length}
 use lib.Seq.{take-at, drop-at}
 use Rattle.rules.specs.declared.Rule.{Rule}
-use Rattle.shapes.specs.All.{All, more}
+use Rattle.plain.specs.All.{All, more}
 use Rattle.shapes.specs.Shape.{textOf}
 use Rattle.texts.specs.Kind.{relationOf, joinKind}
 use Rattle.hulls.specs.Hull.{Pairs}

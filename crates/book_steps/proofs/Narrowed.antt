@@ -1,4 +1,5 @@
--- What narrowing answers for the texts of a rule, read as new shapes of the texts that it looks at; and back. Assumes nothing.
+-- What narrowing answers for the texts of a rule, read as new shapes of the texts that it looks at; and back. Assumes
+-- nothing.
 use mathlib.Core.Path.{_≡_, refl, sym, ap, ap₂, _∙_, subst, subst₂}
 use mathlib.Core.Bool.{Bool, true}
 use mathlib.Core.List.{List, [], _∷_, _++_, append-nil}
@@ -6,10 +7,10 @@ use Prim.Native.Nat.{ℕ, _+_, _*_, _≤_}
 use native.Mathlib.Omega.{arith}
 use lib.ListN.{length, take, drop, length-append}
 use lib.Seq.{take-at}
-use Rattle.bases.specs.Tells.{Tells}
+use Rattle.plain.specs.Tells.{Tells}
 use Rattle.rules.specs.declared.Rule.{Rule}
-use Rattle.shapes.specs.All.{All}
-use Rattle.shapes.specs.Shape.{Block, total}
+use Rattle.plain.specs.All.{All}
+use Rattle.shapes.specs.Shape.{Block, total, blockSize}
 use Rattle.shapes.specs.Lent.{shapeOf, wordsOf}
 use Rattle.shapes.proofs.Lent.{shape-length}
 use Rattle.shapes.proofs.Numbers.{words-length}
@@ -40,14 +41,14 @@ three-end x y z = ap (λ (l : List _). x ++ (y ++ l)) (append-nil z)
 
 module _ {counts xs : List ℕ} (d : Standing counts xs) where
   -- the numbers of a text's new shape stand at the start of its output
-  pub new-words : (k : ℕ) {o : List ℕ} (r : List ℕ) (B : List Block) → length B ≡ countOf counts k → o ≡ wordsOf B ++ r → take (countOf counts k * 4) o ≡ wordsOf B
-  new-words k r B e f = ap (take (countOf counts k * 4)) f ∙ take-at (wordsOf B) r (countOf counts k * 4) (words-length B ∙ ap (λ (n : ℕ). n * 4) e)
+  pub new-words : (k : ℕ) {o : List ℕ} (r : List ℕ) (B : List Block) → length B ≡ countOf counts k → o ≡ wordsOf B ++ r → take (countOf counts k * blockSize) o ≡ wordsOf B
+  new-words k r B e f = ap (take (countOf counts k * blockSize)) f ∙ take-at (wordsOf B) r (countOf counts k * blockSize) (words-length B ∙ ap (λ (n : ℕ). n * blockSize) e)
 
   -- so laid back they are its new numbers
   new-laid : (k : ℕ) (mid : List ℕ) {o ys : List ℕ} (r : List ℕ) (B : List Block) → length B ≡ countOf counts k → o ≡ wordsOf B ++ r
-      → ys ≡ replaced (firstOf counts k * 4) (take (countOf counts k * 4) o) mid
+      → ys ≡ replaced (firstOf counts k * blockSize) (take (countOf counts k * blockSize) o) mid
       → ys ≡ laidOne counts k B mid
-  new-laid k mid r B e f g = g ∙ ap (λ (x : List ℕ). replaced (firstOf counts k * 4) x mid) (new-words k r B e f)
+  new-laid k mid r B e f g = g ∙ ap (λ (x : List ℕ). replaced (firstOf counts k * blockSize) x mid) (new-words k r B e f)
 
   pub text-count : (k : ℕ) → Names counts k → length (shapeOf (numbersIn counts xs k)) ≡ countOf counts k
   text-count k n = shape-length (numbersIn counts xs k) ∙ (let e = text-size d k (n .from-one) in omega arith)
@@ -101,8 +102,8 @@ module _ {counts xs : List ℕ} (d : Standing counts xs) where
             (subst (λ (Q : List (List ℕ) → Type 0). Hull Q both (n .first ++ n .second)) entered-two (n .hull))
 
         -- laid back one after the other
-        pub two-lays : {mid ys : List ℕ} {m s : Bool} → mid ≡ replaced (firstOf counts (t .a) * 4) (take (countOf counts (t .a) * 4) ox′) xs → Tells m ((true ≡ true) × (mid ≡ xs))
-            → ys ≡ replaced (firstOf counts (t .b) * 4) (take (countOf counts (t .b) * 4) oy′) mid → Tells s ((m ≡ true) × (ys ≡ mid))
+        pub two-lays : {mid ys : List ℕ} {m s : Bool} → mid ≡ replaced (firstOf counts (t .a) * blockSize) (take (countOf counts (t .a) * blockSize) ox′) xs → Tells m ((true ≡ true) × (mid ≡ xs))
+            → ys ≡ replaced (firstOf counts (t .b) * blockSize) (take (countOf counts (t .b) * blockSize) oy′) mid → Tells s ((m ≡ true) × (ys ≡ mid))
             → Lays counts (t .a ∷ (t .b ∷ [])) newTwo xs ys true s
         two-lays {mid = mid} e p f q =
             then-lay (new-laid (t .a) xs _ (n .first) first-of-two (n .first-output) e) p (then-lay (new-laid (t .b) mid _ (n .second) second-of-two (n .second-output) f) q all-laid)
@@ -185,10 +186,10 @@ module _ {counts xs : List ℕ} (d : Standing counts xs) where
         three-hull = subst₂ (Hull Joined) (sym three-parts) (sym (three-end (n .first) (n .second) (n .third)))
             (subst (λ (Q : List (List ℕ) → Type 0). Hull Q three (n .first ++ (n .second ++ n .third))) entered-three (n .hull))
 
-        pub three-lays : {one two ys : List ℕ} {m p s : Bool} → one ≡ replaced (firstOf counts (t .a) * 4) (take (countOf counts (t .a) * 4) ox′) xs
+        pub three-lays : {one two ys : List ℕ} {m p s : Bool} → one ≡ replaced (firstOf counts (t .a) * blockSize) (take (countOf counts (t .a) * blockSize) ox′) xs
             → Tells m ((true ≡ true) × (one ≡ xs))
-            → two ≡ replaced (firstOf counts (t .b) * 4) (take (countOf counts (t .b) * 4) oy′) one → Tells p ((m ≡ true) × (two ≡ one))
-            → ys ≡ replaced (firstOf counts (t .c) * 4) (take (countOf counts (t .c) * 4) oz′) two → Tells s ((p ≡ true) × (ys ≡ two))
+            → two ≡ replaced (firstOf counts (t .b) * blockSize) (take (countOf counts (t .b) * blockSize) oy′) one → Tells p ((m ≡ true) × (two ≡ one))
+            → ys ≡ replaced (firstOf counts (t .c) * blockSize) (take (countOf counts (t .c) * blockSize) oz′) two → Tells s ((p ≡ true) × (ys ≡ two))
             → Lays counts (t .a ∷ (t .b ∷ (t .c ∷ []))) newThree xs ys true s
         three-lays {one = one} {two = two} e p f q g u =
             then-lay (new-laid (t .a) xs _ (n .first) first-of-three (n .first-output) e) p

@@ -6,10 +6,10 @@ use Prim.Native.Nat.{ℕ}
 use native.Mathlib.Omega.{arith}
 use lib.ListN.{length}
 use Rattle.rules.specs.declared.Rule.{Rule}
-use Rattle.shapes.specs.All.{All, more}
+use Rattle.plain.specs.All.{All, more}
 use Rattle.shapes.specs.Shape.{Block, Sound, Small}
 use Rattle.shapes.specs.Lent.{Numbers, shapeOf, wordsOf}
-use Rattle.shapes.proofs.All.{all-take, all-drop, all-append, all-left, all-right}
+use Rattle.plain.proofs.All.{all-take, all-drop, all-append, all-left, all-right}
 use Rattle.shapes.proofs.Lent.{small-bases}
 use Rattle.hulls.specs.Hull.{Hull}
 use Rattle.hulls.proofs.Hull.{hull-within, hull-sound}

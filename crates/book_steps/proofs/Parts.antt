@@ -1,4 +1,5 @@
--- The parts of all blocks, or of what goes with each block, that belong to some texts ks of a book: picked end to end, and new ones laid over them. Assumes nothing.
+-- The parts of all blocks, or of what goes with each block, that belong to some texts ks of a book: picked end to end,
+-- and new ones laid over them. Assumes nothing.
 use mathlib.Core.Path.{_≡_, refl, sym, ap, ap₂, _∙_}
 use mathlib.Core.List.{List, [], _∷_, _++_, append-assoc}
 use mathlib.Core.Logic.{_⊎_, inl, inr, ⊎-elim}
@@ -6,9 +7,9 @@ use Prim.Native.Nat.{ℕ, _+_, _≤_, _<_}
 use native.Mathlib.Omega.{arith}
 use lib.ListN.{length, take, drop, length-drop}
 use lib.Seq.{length-take-le, ext-getD, sets, sets-eq}
-use Rattle.bases.proofs.Plain.{lt-or-le}
-use Rattle.shapes.specs.All.{All, more}
-use Rattle.shapes.proofs.All.{all-append}
+use Rattle.plain.proofs.Plain.{lt-or-le}
+use Rattle.plain.specs.All.{All, more}
+use Rattle.plain.proofs.All.{all-append}
 use Rattle.hulls.proofs.Places.{Off, Distinct, no-place, one-more, picked, over, picked-length, picked-join, over-length, over-off, over-join, row, row-length, row-all, row-distinct, distinct-join, picked-row, over-row}
 use Rattle.books.specs.Counts.{sumOf, countOf, firstOf}
 use Rattle.books.specs.Rules.{Names}

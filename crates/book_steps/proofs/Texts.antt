@@ -1,4 +1,5 @@
--- A text's place among the numbers of all, as the code has it, and what is read there, narrowed there and laid there. Assumes nothing.
+-- A text's place among the numbers of all, as the code has it, and what is read there, narrowed there and laid there.
+-- Assumes nothing.
 use mathlib.Core.Path.{_≡_, sym, ap, ap₂, _∙_, subst, subst₂}
 use mathlib.Core.Bool.{Bool}
 use mathlib.Core.List.{List}
@@ -8,33 +9,29 @@ use native.Mathlib.Omega.{arith}
 use lib.ListN.{length, take, drop}
 use Rattle.pairs.specs.Narrow.{NarrowAnswer}
 use Rattle.joins.specs.Join.{JoinAnswer}
-use Rattle.shapes.specs.Lent.{Accepted}
 use Rattle.laying.specs.Laid.{replaced}
 use Rattle.laying.proofs.Laid.{read-there}
 use Rattle.books.specs.declared.Range.{Range}
 use Rattle.books.specs.Counts.{countOf, firstOf}
 use Rattle.books.specs.Code.{RangeOf, numbersIn}
 use Rattle.books.proofs.Part.{range-part}
+use Rattle.shapes.specs.Shape.{blockSize}
 
 -- the numbers at a place
 abbrev pub at : List ℕ → Range → List ℕ
 at xs p = take (p .to - p .from) (drop (p .from) xs)
 
--- an accepted shape has at most 128 numbers
-pub few-numbers : {xs : List ℕ} → Accepted xs → length xs ≤ 128
-few-numbers a = let few = a .right .few in let whole = a .right .whole in omega arith
-
 module _ {counts : List ℕ} {k : ℕ} {p : Range} (e : RangeOf counts k p) where
-  pub size-is : p .to - p .from ≡ countOf counts k * 4
+  pub size-is : p .to - p .from ≡ countOf counts k * blockSize
   size-is = let to = e .to in omega arith
 
   pub at-is : (xs : List ℕ) → at xs p ≡ numbersIn counts xs k
   at-is xs = range-part counts xs k p e
 
-  pub taken-is : (x : List ℕ) → take (p .to - p .from) x ≡ take (countOf counts k * 4) x
+  pub taken-is : (x : List ℕ) → take (p .to - p .from) x ≡ take (countOf counts k * blockSize) x
   taken-is x = ap (λ (n : ℕ). take n x) size-is
 
-  pub laid-is : (x xs : List ℕ) → replaced (p .from) (take (p .to - p .from) x) xs ≡ replaced (firstOf counts k * 4) (take (countOf counts k * 4) x) xs
+  pub laid-is : (x xs : List ℕ) → replaced (p .from) (take (p .to - p .from) x) xs ≡ replaced (firstOf counts k * blockSize) (take (countOf counts k * blockSize) x) xs
   laid-is x xs = ap₂ (λ (m : ℕ) (y : List ℕ). replaced m y xs) (e .from) (taken-is x)
 
   -- new numbers that differ from the old ones, once laid over them, are a change

@@ -5,7 +5,7 @@ use Prim.Native.Nat.{ℕ, _*_, _≤_}
 use lib.ListN.{length}
 use Rattle.rules.specs.declared.Rule.{Rule}
 use Rattle.rules.specs.Rule.{ruleAt, ruleCount}
-use Rattle.shapes.specs.All.{All}
+use Rattle.plain.specs.All.{All}
 use Rattle.shapes.specs.Lent.{shapeOf}
 use Rattle.hulls.specs.Hull.{None, Hull}
 use Rattle.laying.specs.Laid.{replaced}
@@ -13,6 +13,7 @@ use Rattle.books.specs.Counts.{sumOf, RightCount, firstOf}
 use Rattle.books.specs.Rules.{asks}
 use Rattle.books.specs.Refused.{SoundTexts, SoundRules}
 use Rattle.shapes.specs.Shape.{blockSize}
+use Rattle.rules.specs.Limits.{mostTexts, mostRules}
 use Rattle.book_steps.specs.declared.Applied.{Applied}
 use Rattle.book_steps.specs.declared.Applied.the-variants.{None as no-choice, Same, Changed}
 
@@ -24,13 +25,13 @@ pub record Standing (counts xs : List ℕ) : Type 0 where
 -- At most eight texts, each of a right number of blocks.
 pub record Texts (counts xs : List ℕ) : Type 0 where
   pub each : All RightCount counts
-  pub few : length counts ≤ 8
+  pub few : length counts ≤ mostTexts
   pub standing : Standing counts xs
 
 -- An accepted book with the numbers so far.
 pub record Running (counts xs rules : List ℕ) : Type 0 where
   pub texts : Texts counts xs
-  pub few-rules : ruleCount rules ≤ 16
+  pub few-rules : ruleCount rules ≤ mostRules
   pub right : SoundRules counts (shapeOf xs) rules
 
 -- New numbers of the texts ks laid over their old ones, text by text.

@@ -3,13 +3,14 @@ use answers::Checked;
 ghost use mathlib.Core.Path.{_≡_};
 ghost use Prim.Native.Nat.{_*_, _≤_};
 ghost use lib.ListN.{length};
-ghost use Rattle.bases.specs.Tells.{Tells};
-ghost use Rattle.shapes.specs.All.{All};
+ghost use Rattle.plain.specs.Tells.{Tells};
+ghost use Rattle.plain.specs.All.{All};
 ghost use Rattle.shapes.specs.Lent.{shapeOf, BlocksChecked};
 ghost use Rattle.shapes.specs.Shape.{blockSize};
 ghost use Rattle.books.specs.Counts.{sumOf, RightCount, RightCounts, shapeIn};
 ghost use Rattle.books.specs.Rules.{Names};
 ghost use Rattle.books.specs.Code.{TextsChecked};
+ghost use Rattle.rules.specs.Limits.{mostTexts};
 
 // Whether every block count is 1 to 32. The numbers may be any.
 fn right_each(counts: &[u64]) -> bool
@@ -38,7 +39,7 @@ pub fn right_counts(counts: &[u64], blocks: &[u64], rules: &[u64]) -> bool
     if n == 0 {
         return false;
     }
-    if 8 < n {
+    if rules::TEXTS < n {
         return false;
     }
     if !right_each(counts) {
@@ -47,7 +48,7 @@ pub fn right_counts(counts: &[u64], blocks: &[u64], rules: &[u64]) -> bool
     if rules.len() % rules::SIZE != 0 {
         return false;
     }
-    if 16 < rules.len() / rules::SIZE {
+    if rules::RULES < rules.len() / rules::SIZE {
         return false;
     }
     let sum = books::blocks_before(counts, n);
@@ -60,7 +61,7 @@ pub fn right_counts(counts: &[u64], blocks: &[u64], rules: &[u64]) -> bool
 // The refusals of the blocks of text k, from 1.
 fn check_text(counts: &[u64], blocks: &[u64], k: usize) -> Checked
     requires { ⌜ All RightCount (now counts) ⌝ }
-    requires { ⌜ length (now counts) ≤ 8 ⌝ }
+    requires { ⌜ length (now counts) ≤ mostTexts ⌝ }
     requires { ⌜ length (now blocks) ≡ sumOf (now counts) * blockSize ⌝ }
     requires { ⌜ Names (now counts) k ⌝ }
     ensures { λ r. ⌜ BlocksChecked k (shapeIn (now (counts .entry)) (shapeOf (now (blocks .entry))) k) r ⌝ }
@@ -74,7 +75,7 @@ fn check_text(counts: &[u64], blocks: &[u64], k: usize) -> Checked
 // The same, text by text.
 pub fn check_texts(counts: &[u64], blocks: &[u64]) -> Checked
     requires { ⌜ All RightCount (now counts) ⌝ }
-    requires { ⌜ length (now counts) ≤ 8 ⌝ }
+    requires { ⌜ length (now counts) ≤ mostTexts ⌝ }
     requires { ⌜ length (now blocks) ≡ sumOf (now counts) * blockSize ⌝ }
     ensures { λ r. ⌜ TextsChecked (now (counts .entry)) (shapeOf (now (blocks .entry))) r ⌝ }
 {

@@ -6,6 +6,7 @@ use native.Mathlib.Omega.{arith}
 use lib.ListN.{take, drop}
 use Rattle.shapes.specs.Lent.{shapeOf}
 use Rattle.laying.proofs.Shapes.{shape-part}
+use Rattle.shapes.specs.Shape.{blockSize}
 use Rattle.books.specs.declared.Range.{Range}
 use Rattle.books.specs.Counts.{countOf, firstOf, shapeIn}
 use Rattle.books.specs.Code.{RangeOf, numbersIn}
@@ -13,7 +14,7 @@ use Rattle.books.specs.Code.{RangeOf, numbersIn}
 pub range-part : (counts xs : List ℕ) (k : ℕ) (r : Range) → RangeOf counts k r → take (r .to - r .from) (drop (r .from) xs) ≡ numbersIn counts xs k
 range-part counts xs k r p =
     let e = p .to in
-    let size : r .to - r .from ≡ countOf counts k * 4 = omega arith in
+    let size : r .to - r .from ≡ countOf counts k * blockSize = omega arith in
     ap₂ (λ (n m : ℕ). take n (drop m xs)) size (p .from)
 
 pub range-shape : (counts xs : List ℕ) (k : ℕ) (r : Range) → RangeOf counts k r → shapeOf (take (r .to - r .from) (drop (r .from) xs)) ≡ shapeIn counts (shapeOf xs) k

@@ -1,57 +1,51 @@
 -- One book has one refusal, and none if it is accepted; and so has one rule. Assumes nothing.
-use mathlib.Core.Path.{_≡_, sym, _∙_}
+use mathlib.Core.Path.{_≡_}
 use mathlib.Core.List.{List}
 use Prim.Native.Nat.{ℕ, _+_}
 use native.Mathlib.Omega.{arith}
-use Rattle.answers.specs.Told.{Told}
+use lib.ListN.{length}
+use Rattle.answers.specs.Told.{Told, tell}
+use Rattle.answers.proofs.Turns.{OneOf, need-one, in-turn-one, due-tells, need-tells}
 use Rattle.rules.specs.declared.Rule.{Rule}
+use Rattle.rules.specs.Rule.{ruleAt, ruleCount}
 use Rattle.shapes.specs.Shape.{Block}
-use Rattle.shapes.proofs.FirstBad.{first-bad-none, first-refused-one}
-use Rattle.shapes.proofs.Refused.{blocks-one}
-use Rattle.books.specs.Refused.{SoundTexts, SoundRule, SoundRules, FirstText, RuleRefused, FirstRule, BookRefused, BookAccepted}
-use Rattle.books.specs.Refused.RuleRefused.{wrong, too-long}
-use Rattle.books.specs.Refused.BookRefused.{wrong-counts, wrong-text, wrong-rule, short-work}
+use Rattle.answers.proofs.FirstBad.{one-by-one}
+use Rattle.shapes.proofs.Refused.{of-blocks}
+use Rattle.books.specs.Refused.{SoundRule, ofText, eachText, ruleTurns, RuleRefused, ofRule, eachRule, bookTurns, BookRefused, BookAccepted, ofBook}
 
 -- ---- one rule
 
-pub rule-one : {counts : List ℕ} {S : List Block} {i : ℕ} {t : Rule} {u v : Told} → RuleRefused counts S i t u → RuleRefused counts S i t v → u ≡ v
-rule-one (wrong n p) (wrong m q) = p ∙ sym q
-rule-one (wrong n p) (too-long r m q) = absurd (n r)
-rule-one (too-long r n p) (wrong m q) = absurd (m r)
-rule-one (too-long r n p) (too-long s m q) = p ∙ sym q
+pub of-rule : {counts : List ℕ} {S : List Block} {i : ℕ} {t : Rule} → OneOf (ofRule counts S i t)
+of-rule {counts} {S} {i} {t} = in-turn-one (ruleTurns counts S i t) (need-one, (need-one, tt)) (λ s. (s .right, (s .joinable, tt)))
 
 pub rule-not : {counts : List ℕ} {S : List Block} {i : ℕ} {t : Rule} {u : Told} → RuleRefused counts S i t u → SoundRule counts S t → ⊥
-rule-not (wrong n p) s = n (s .right)
-rule-not (too-long r n p) s = n (s .joinable)
+rule-not r s = of-rule .not r s
+
+-- ---- one text
+
+pub of-text : {counts : List ℕ} {S : List Block} {k : ℕ} → OneOf (ofText counts S k)
+of-text = of-blocks (λ s. (s .sound, s .short))
 
 -- ---- a book
 
-first-not : {counts : List ℕ} {S : List Block} {k : ℕ} {t : Told} → SoundTexts counts S → FirstText counts S k t → ⊥
-first-not s f = first-bad-none (λ i l. s .each (i + 1) (record { from-one = omega arith; within = omega arith })) (f .first)
+of-texts : {counts : List ℕ} {S : List Block} → OneOf (eachText counts S)
+of-texts {counts} {S} =
+    one-by-one (length counts) (λ i. ofText counts S (i + 1)) (λ i. of-text) (λ s i l. s .each (i + 1) (record { from-one = omega arith; within = omega arith }))
 
-wrong-not : {counts rules : List ℕ} {S : List Block} {i : ℕ} {u : Told} → SoundRules counts S rules → FirstRule counts S rules i u → ⊥
-wrong-not r w = first-bad-none (r .each) (w .first)
+of-rules : {counts rules : List ℕ} {S : List Block} → OneOf (eachRule counts S rules)
+of-rules {counts} {rules} {S} = one-by-one (ruleCount rules) (λ j. ofRule counts S (j + 1) (ruleAt rules j)) (λ j. of-rule) (λ s. s .each)
+
+pub of-book : {counts blocks rules : List ℕ} {work : ℕ} → OneOf (ofBook counts blocks rules work)
+of-book {counts} {blocks} {rules} {work} =
+    in-turn-one (bookTurns counts blocks rules work) (need-one, (of-texts, (of-rules, (need-one, tt)))) (λ a. (a .counted, (a .texts, (a .right, (a .room, tt)))))
 
 pub book-one : {counts blocks rules : List ℕ} {work : ℕ} {t u : Told} → BookRefused counts blocks rules work t → BookRefused counts blocks rules work u → t ≡ u
-book-one (wrong-counts a p) (wrong-counts b q) = p ∙ sym q
-book-one (wrong-counts a p) (wrong-text c k f) = absurd (a c)
-book-one (wrong-counts a p) (wrong-rule c s i w) = absurd (a c)
-book-one (wrong-counts a p) (short-work c s r l q) = absurd (a c)
-book-one (wrong-text c k f) (wrong-counts b q) = absurd (b c)
-book-one (wrong-text c k f) (wrong-text d j g) = first-refused-one (λ i. blocks-one) f g
-book-one (wrong-text c k f) (wrong-rule d s i w) = absurd (first-not s f)
-book-one (wrong-text c k f) (short-work d s r l q) = absurd (first-not s f)
-book-one (wrong-rule c s i w) (wrong-counts b q) = absurd (b c)
-book-one (wrong-rule c s i w) (wrong-text d k f) = absurd (first-not s f)
-book-one (wrong-rule c s i w) (wrong-rule d z j v) = first-refused-one (λ k. rule-one) w v
-book-one (wrong-rule c s i w) (short-work d z r l q) = absurd (wrong-not r w)
-book-one (short-work c s r l p) (wrong-counts b q) = absurd (b c)
-book-one (short-work c s r l p) (wrong-text d k f) = absurd (first-not s f)
-book-one (short-work c s r l p) (wrong-rule d z i w) = absurd (wrong-not r w)
-book-one (short-work c s r l p) (short-work d z v m q) = p ∙ sym q
+book-one p q = of-book .one p q
 
 pub book-not : {counts blocks rules : List ℕ} {work : ℕ} {t : Told} → BookRefused counts blocks rules work t → BookAccepted counts blocks rules work → ⊥
-book-not (wrong-counts a p) h = a (h .counted)
-book-not (wrong-text c k f) h = first-not (h .texts) f
-book-not (wrong-rule c s i w) h = wrong-not (h .right) w
-book-not (short-work c s r l p) h = let room = h .room in omega arith
+book-not p a = of-book .not p a
+
+-- ---- what is told of a rule: it has whatever property both its refusals have
+
+pub rule-tells : (Q : Told → Type 0) {counts : List ℕ} {S : List Block} {i : ℕ} {t : Rule} {u : Told} → Q (tell 7 0 i) → Q (tell 12 0 i) → RuleRefused counts S i t u → Q u
+rule-tells Q {counts} {S} {i} {t} {u} seven twelve r = due-tells Q (ruleTurns counts S i t) (need-tells Q seven, (need-tells Q twelve, tt)) u r

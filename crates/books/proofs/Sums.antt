@@ -6,9 +6,9 @@ use native.Mathlib.Numerals.{add-one}
 use native.Mathlib.Omega.{arith}
 use lib.ListN.{length, getD, take, drop, length-drop, take-append-drop}
 use lib.Seq.{take-length, drop-drop}
-use Rattle.shapes.specs.All.{All, more}
+use Rattle.plain.specs.All.{All, more}
 use Rattle.shapes.specs.Shape.{Block, Sound}
-use Rattle.shapes.proofs.All.{all-at, all-append}
+use Rattle.plain.proofs.All.{all-at, all-append}
 use Rattle.books.specs.Counts.{sumOf, RightCount, countOf, firstOf}
 use Rattle.books.specs.Rules.{Names}
 

@@ -5,16 +5,15 @@ use mathlib.Core.Logic.{⊎-elim}
 use Prim.Native.Nat.{ℕ, _+_, _-_, _<_}
 use native.Mathlib.Omega.{arith}
 use lib.ListN.{length}
-use Rattle.bases.proofs.Plain.{lt-or-le}
+use Rattle.plain.proofs.Plain.{lt-or-le}
 use Rattle.shapes.specs.Shape.{Block}
 use Rattle.answers.specs.Told.{Told}
 use Rattle.rules.specs.Rule.{ruleAt, ruleCount}
 use Rattle.shapes.specs.Lent.{BlocksRefused}
-use Rattle.shapes.proofs.Refused.{blocks-not}
 use Rattle.books.specs.Counts.{shapeIn, SoundText}
 use Rattle.books.specs.Rules.{Names}
 use Rattle.books.specs.Refused.{SoundTexts, FirstText, SoundRule, RuleRefused, FirstRule}
-use Rattle.books.proofs.Refused.{rule-not}
+use Rattle.books.proofs.Refused.{of-text, rule-not}
 
 -- ---- the texts
 
@@ -41,7 +40,7 @@ first-text counts S k {t} n f r =
         place = omega arith;
         within = omega arith;
         good = λ i l. f (i + 1) (record { from-one = omega arith; within = omega arith }) (omega arith);
-        bad = λ s. let sound = subst (SoundText counts S) back s in blocks-not r (sound .sound) (sound .short);
+        bad = λ s. of-text .not r (subst (SoundText counts S) back s);
       };
       refused = subst (λ (i : ℕ). BlocksRefused i (shapeIn counts S i) t) (sym back) r;
     }

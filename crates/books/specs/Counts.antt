@@ -1,11 +1,13 @@
--- Document 01, "A book and its run": the counts of a book, and where its texts stand in the blocks, which are lent end to end.
+-- Document 01, "A book and its run": the counts of a book, and where its texts stand in the blocks, which are lent end
+-- to end.
 use mathlib.Core.Path.{_≡_}
 use mathlib.Core.List.{List, [], _∷_}
 use Prim.Native.Nat.{ℕ, _+_, _-_, _*_, _%_, _≤_}
 use lib.ListN.{length, getD, take, drop}
 use Rattle.rules.specs.Rule.{ruleSize, ruleCount}
-use Rattle.shapes.specs.All.{All}
-use Rattle.shapes.specs.Shape.{Block, Sound, total, blockSize}
+use Rattle.plain.specs.All.{All}
+use Rattle.shapes.specs.Shape.{Block, Sound, total, blockSize, mostBlocks}
+use Rattle.rules.specs.Limits.{mostTexts, mostRules}
 
 -- The block counts, added.
 unfoldable pub sumOf : List ℕ → ℕ
@@ -15,17 +17,17 @@ sumOf (c ∷ cs) = c + sumOf cs
 -- A block count is 1 to 32.
 pub record RightCount (c : ℕ) : Type 0 where
   pub some : 1 ≤ c
-  pub few : c ≤ 32
+  pub few : c ≤ mostBlocks
 
--- Otherwise refusal 6: texts are 1 to 8, a block count is 1 to 32, the numbers given for blocks are four times the sum of the counts,
--- and the rules are whole fours and not over 16.
+-- Otherwise refusal 6: texts are 1 to 8, a block count is 1 to 32, the numbers given for blocks are those of the sum of
+-- the counts, and the rules are whole fours and not over 16.
 pub record RightCounts (counts blocks rules : List ℕ) : Type 0 where
   pub some-texts : 1 ≤ length counts
-  pub few-texts : length counts ≤ 8
+  pub few-texts : length counts ≤ mostTexts
   pub each : All RightCount counts
   pub whole-blocks : length blocks ≡ sumOf counts * blockSize
   pub whole-rules : length rules % ruleSize ≡ 0
-  pub few-rules : ruleCount rules ≤ 16
+  pub few-rules : ruleCount rules ≤ mostRules
 
 -- Texts count from 1. Text k has as many blocks as its count says, and begins after the blocks of the texts before it.
 abbrev pub countOf : List ℕ → ℕ → ℕ

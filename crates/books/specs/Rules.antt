@@ -1,5 +1,5 @@
--- Document 01, "A book and its run", and document 02, orders 3 and 5: a rule is (kind, a, b, c): 0 a equals b once trailing blanks are dropped, 1 a at most b, 2 a before b,
--- 3 a is b followed by c, 4 a equals b to the letter.
+-- Document 01, "A book and its run", and document 02, orders 3 and 5: a rule is (kind, a, b, c): 0 a equals b once
+-- trailing blanks are dropped, 1 a at most b, 2 a before b, 3 a is b followed by c, 4 a equals b to the letter.
 use mathlib.Core.Path.{_≡_}
 use mathlib.Core.List.{List, _++_}
 use Prim.Native.Nat.{ℕ, _+_, _≤_, _<_}
@@ -33,8 +33,8 @@ pub record RightRule (counts : List ℕ) (t : Rule) : Type 0 where
 pub record Joinable (counts : List ℕ) (S : List Block) (t : Rule) : Type 0 where
   pub short : t .kind ≡ joinKind → total (shapeIn counts S (t .b)) + total (shapeIn counts S (t .c)) ≤ 250
 
--- What a rule asks of texts, `text k` being that of number k: the relation of its kind between the texts of a and b; in a join, that the text of a is that of b
--- followed by that of c.
+-- What a rule asks of texts, `text k` being that of number k: the relation of its kind between the texts of a and b; in
+-- a join, that the text of a is that of b followed by that of c.
 pub data Keeps (t : Rule) (text : ℕ → List ℕ) : Type 0 where
   relates : relationOf (t .kind) (text (t .a)) (text (t .b)) → Keeps t text
   joins : t .kind ≡ joinKind → text (t .a) ≡ text (t .b) ++ text (t .c) → Keeps t text

@@ -2,7 +2,8 @@
 ghost use mathlib.Core.Path.{_≡_};
 ghost use Prim.Native.Nat.{_≤_};
 ghost use lib.ListN.{length, take};
-ghost use Rattle.shapes.specs.All.{All};
+ghost use Rattle.plain.specs.All.{All};
+ghost use Rattle.rules.specs.Limits.{mostTexts};
 ghost use Rattle.books.specs.Counts.{sumOf, RightCount};
 ghost use Rattle.books.specs.Rules.{Names};
 ghost use Rattle.books.specs.Code.{RangeOf};
@@ -16,7 +17,7 @@ pub struct Range {
 // The blocks of the first k texts: the number, from 0, of the first block of text k + 1.
 pub fn blocks_before(counts: &[u64], k: usize) -> usize
     requires { ⌜ All RightCount (now counts) ⌝ }
-    requires { ⌜ length (now counts) ≤ 8 ⌝ }
+    requires { ⌜ length (now counts) ≤ mostTexts ⌝ }
     requires { ⌜ k ≤ length (now counts) ⌝ }
     ensures { λ r. ⌜ r ≡ sumOf (take k (now (counts .entry))) ⌝ }
 {
@@ -33,7 +34,7 @@ pub fn blocks_before(counts: &[u64], k: usize) -> usize
 // The range of text k, from 1, among the numbers of all.
 pub fn range_of(counts: &[u64], k: usize) -> Range
     requires { ⌜ All RightCount (now counts) ⌝ }
-    requires { ⌜ length (now counts) ≤ 8 ⌝ }
+    requires { ⌜ length (now counts) ≤ mostTexts ⌝ }
     requires { ⌜ Names (now counts) k ⌝ }
     ensures { λ r. ⌜ RangeOf (now (counts .entry)) k r ⌝ }
 {

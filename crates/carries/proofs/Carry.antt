@@ -1,20 +1,19 @@
 -- What a sum carries into each bit, and that it climbs: each carry comes from the bit below. Assumes nothing.
-use mathlib.Core.Path.{_≡_, refl, sym, ap, ap₂, _∙_, subst}
-use mathlib.Core.Logic.{_⊎_, inl, inr, ⊎-elim}
-use Prim.Native.Nat.{ℕ, zero, suc, _+_, _-_, _*_, _/_, _%_, _^_, _≤_, _<_}
+use mathlib.Core.Path.{_≡_, sym, ap, ap₂, _∙_, subst}
+use mathlib.Core.Logic.{⊎-elim}
+use Prim.Native.Nat.{ℕ, zero, suc, _+_, _-_, _/_, _%_, _^_, _<_}
 use native.Mathlib.Nat.{mod-lt, div-one}
-use native.Mathlib.Numerals.{add-one}
 use native.Mathlib.Omega.{arith}
 use lib.Bits.{bitAnd, bitXor, xor-shr, xor-mod, xor-add-and}
 use lib.Dec.{lit<}
 use lib.Pow.{field, mod-mod-pow}
 use Rattle.bases.specs.Base.{Holds}
 use Rattle.bases.proofs.Laws.{halved}
-use Rattle.bases.proofs.Plain.{lt-or-le, eq-or-ne}
+use Rattle.plain.proofs.Plain.{lt-or-le, eq-or-ne}
 use Rattle.bases.proofs.Sets.{both, shared}
 use Rattle.sets.specs.Set.{Exactly}
 use Rattle.sets.proofs.Exact.{held-or-not, held-under}
-use Rattle.carries.specs.Climb.{Filled, Climbs}
+use Rattle.carries.specs.Climb.{HeldThrough, Climbs}
 
 -- ---- the carries of x + z, with c carried into bit 0
 
@@ -76,7 +75,7 @@ module _ (z s : ℕ) where
   into : ℕ → ℕ
   into q = carries (bitAnd s z) z 0 / 2 ^ q % 2
 
-  filled-more : {p q : ℕ} → Filled z p q → Holds z q → Filled z p (suc q)
+  filled-more : {p q : ℕ} → HeldThrough z p q → Holds z q → HeldThrough z p (suc q)
   filled-more {p} {q} f h t l u = ⊎-elim (λ c. f t l c) (λ c. let e : q ≡ t = omega arith in subst (Holds z) e h) (lt-or-le t q)
 
   climbs : (q : ℕ) → into q ≡ 1 → Climbs z s q

@@ -1,18 +1,18 @@
 -- What falls to a number of s within so many numbers: from so many to twice as many. Assumes nothing.
 use mathlib.Core.Path.{_≡_, subst}
-use mathlib.Core.Logic.{_⊎_, inl, inr, ⊎-elim}
+use mathlib.Core.Logic.{inl, inr, ⊎-elim}
 use Prim.Native.Nat.{ℕ, _+_, _-_, _/_, _^_, _≤_, _<_}
 use native.Mathlib.Omega.{arith}
 use lib.Bits.{bitAnd, bitOr}
 use Rattle.bases.specs.Base.{Holds, Empty}
-use Rattle.bases.proofs.Plain.{lt-or-le}
+use Rattle.plain.proofs.Plain.{lt-or-le}
 use Rattle.sets.specs.Set.{Exactly}
 use Rattle.sets.proofs.Exact.{exactly-as, both-exactly, either-exactly, down-exactly, lower-exactly}
-use Rattle.carries.specs.Climb.{Filled, Falls, Near, Goes, NoFarther}
+use Rattle.carries.specs.Climb.{HeldThrough, Falls, Near, Goes, NoFarther}
 
 -- ---- parts of what is filled
 
-pub joined : (z p q r : ℕ) → Filled z p q → Filled z q r → Filled z p r
+pub joined : (z p q r : ℕ) → HeldThrough z p q → HeldThrough z q r → HeldThrough z p r
 joined z p q r f g t l u = ⊎-elim (λ c. f t l c) (λ c. g t c u) (lt-or-le t q)
 
 module _ (z : ℕ) where

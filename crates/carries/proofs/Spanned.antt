@@ -1,17 +1,17 @@
 -- From where numbers go on without a gap, in rows of twice as many each. Assumes nothing.
-use mathlib.Core.Path.{_≡_, refl, sym, ap, _∙_, subst}
+use mathlib.Core.Path.{_≡_, sym, ap, _∙_, subst}
 use mathlib.Core.List.{List, []}
 use mathlib.Core.Logic.{⊎-elim}
-use Prim.Native.Nat.{ℕ, _+_, _*_, _/_, _^_, _≤_, _<_}
+use Prim.Native.Nat.{ℕ, _+_, _*_, _^_, _≤_, _<_}
 use native.Mathlib.Nat.{pow-suc}
 use native.Mathlib.Numerals.{add-one}
 use native.Mathlib.Omega.{arith}
 use lib.ListN.{length, take}
 use lib.Pow.{pow-mono}
 use lib.Seq.{length-take-le}
-use Rattle.bases.proofs.Plain.{lt-or-le}
+use Rattle.plain.proofs.Plain.{lt-or-le}
 use Rattle.sets.specs.Set.{Exactly}
-use Rattle.rows.specs.Row.{rowIn, PutRow}
+use Rattle.rows.specs.Row.{rowIn, PutRow, rowCount, rowSize}
 use Rattle.rows.proofs.Rows.{rows-more, row-in-part}
 use Rattle.carries.specs.Climb.{Goes, NoFarther, Spans}
 
@@ -27,13 +27,13 @@ at-most-128 l {d} e h = let m : 2 ^ l ≤ 2 ^ 7 = pow-mono (let k : l ≤ 7 = om
 
 module _ (z : ℕ) where
   -- the first l rows
-  pub spans-of : (rows : List ℕ) (l : ℕ) → l ≤ 8 → l * 4 ≤ length rows → ((i : ℕ) → i < l → Exactly (rowIn rows i) (Goes z (2 ^ i))) → (2 ^ 64 ≤ z → NoFarther z (2 ^ l)) → Spans z (take (l * 4) rows)
+  pub spans-of : (rows : List ℕ) (l : ℕ) → l ≤ 8 → l * rowSize ≤ length rows → ((i : ℕ) → i < l → Exactly (rowIn rows i) (Goes z (2 ^ i))) → (2 ^ 64 ≤ z → NoFarther z (2 ^ l)) → Spans z (take (l * rowSize) rows)
   spans-of rows l few h each far =
-      let long = length-take-le (l * 4) rows h in
-      let count : length (take (l * 4) rows) / 4 ≡ l = omega arith in
+      let long = length-take-le (l * rowSize) rows h in
+      let count : rowCount (take (l * rowSize) rows) ≡ l = omega arith in
       record {
         few = omega arith;
-        each = λ i b. subst (λ (x : ℕ). Exactly x (Goes z (2 ^ i))) (sym (row-in-part (l * 4) rows i (omega arith))) (each i (omega arith));
+        each = λ i b. subst (λ (x : ℕ). Exactly x (Goes z (2 ^ i))) (sym (row-in-part (l * rowSize) rows i (omega arith))) (each i (omega arith));
         far = λ w. subst (λ (n : ℕ). NoFarther z (2 ^ n)) (sym count) (far w);
       }
 

@@ -1,4 +1,5 @@
-// What climbs and what falls through numbers without a gap: up by what a sum of sets carries, down by steps twice as far each time. And sets of one word.
+// What climbs and what falls through numbers without a gap: up by what a sum of sets carries, down by steps twice as
+// far each time. And sets of one word.
 use sets::Set;
 ghost use mathlib.Core.Path.{_≡_};
 ghost use mathlib.Core.Bool.{true, false};
@@ -6,7 +7,7 @@ ghost use Prim.Native.Nat.{_+_, _*_, _/_, _%_, _^_, _≤_, _<_};
 ghost use lib.Bits.{bitAnd, bitXor};
 ghost use lib.ListN.{length, take};
 ghost use Rattle.bases.specs.Base.{Empty, Meets};
-ghost use Rattle.bases.specs.Tells.{Tells};
+ghost use Rattle.plain.specs.Tells.{Tells};
 ghost use Rattle.sets.specs.Set.{setOf, Exactly};
 ghost use Rattle.carries.specs.Climb.{Climbs, Falls, FallsFrom, Spans};
 
@@ -119,7 +120,8 @@ fn lower(s: Set, by: usize) -> Set
     bits_down(r, k)
 }
 
-// Row l has the numbers from which those of `free` go on for 2 ^ l numbers without a gap; gives how many words they are. One word needs none.
+// Row l has the numbers from which those of `free` go on for 2 ^ l numbers without a gap; gives how many words they
+// are. One word needs none.
 pub fn spans(free: Set, rows: &mut [u64]) -> usize
     requires { ⌜ 32 ≤ length (now rows) ⌝ }
     ensures { λ r. ⌜ (r ≤ length (now (rows .exit))) × Spans (setOf free) (take r (now (rows .exit))) ⌝ }
@@ -142,7 +144,8 @@ pub fn spans(free: Set, rows: &mut [u64]) -> usize
     l * rows::SIZE
 }
 
-// All numbers from which those of `free` lead up without a gap to a number of a set, of which g has those that lie one below.
+// All numbers from which those of `free` lead up without a gap to a number of a set, of which g has those that lie one
+// below.
 fn fall_wide(free: Set, spans: &[u64], g: Set) -> Set
     requires { ⌜ (2 ^ 64 ≤ setOf free) × Spans (setOf free) (now spans) ⌝ }
     ensures { λ r. ⌜ FallsFrom (setOf free) (setOf g) (setOf r) ⌝ }

@@ -5,7 +5,7 @@ use Prim.Native.Nat.{ℕ, zero, suc, _+_, _<_}
 use native.Mathlib.Omega.{arith}
 use lib.ListN.{length, getD}
 use Rattle.letters.proofs.Bases.{both-empty, empty-both}
-use Rattle.shapes.specs.All.{All}
+use Rattle.plain.specs.All.{All}
 use Rattle.shapes.specs.Shape.{Block, Sound, noBlock, total}
 use Rattle.case_blocks.specs.Case.{Widened, Wide, cutBlock, Cuts}
 

@@ -2,16 +2,16 @@
 use mathlib.Core.Path.{_≡_, refl, sym, ap, _∙_, subst}
 use mathlib.Core.List.{List}
 use mathlib.Core.Logic.{⊎-elim}
-use Prim.Native.Nat.{ℕ, _+_, _*_, _^_, _<_}
-use native.Mathlib.Nat.{lt-of-le-of-lt}
+use Prim.Native.Nat.{ℕ, _+_, _*_, _<_}
 use native.Mathlib.Omega.{arith}
-use lib.Bits.{bitAnd, and-le-l}
-use Rattle.bases.proofs.Plain.{lt-or-le}
+use lib.Bits.{bitAnd}
+use Rattle.plain.proofs.Plain.{lt-or-le}
+use Rattle.plain.proofs.Items.{numbers-same}
 use Rattle.sets.specs.Set.{Exactly}
 use Rattle.letters.specs.Case.{SomeCase}
-use Rattle.shapes.specs.Shape.{Block}
-use Rattle.shapes.specs.Lent.{blockAt, Put}
-use Rattle.shapes.proofs.Put.{blocks-same, put-others}
+use Rattle.shapes.specs.Shape.{Block, blockSize}
+use Rattle.shapes.specs.Lent.{blockOf, blockAt, Put}
+use Rattle.shapes.proofs.Put.{put-others}
 use Rattle.case_blocks.specs.Case.{Widened, cutBlock}
 use Rattle.case_blocks.specs.Code.{WidenedTo, CutTo}
 
@@ -38,9 +38,6 @@ widened-whole {xs} {w = w} {w′ = w′} e t = subst (λ (k : ℕ). WidenedTo xs
 
 -- ---- cut
 
-pub cut-small : (x y : ℕ) {n : ℕ} → n ≡ bitAnd x y → x < 2 ^ 128 → n < 2 ^ 128
-cut-small x y d h = rw d (lt-of-le-of-lt (and-le-l x y) h)
-
 pub cut-none : {xs : List ℕ} (o : List ℕ) → CutTo xs 0 o o
 cut-none o = record { long = refl; blocks = λ j l. absurd (omega arith); kept = λ k l. refl }
 
@@ -59,7 +56,7 @@ cut-more {xs} {i} {o} {o′} {o″} t e p = record {
 }
   where
     as-it-was : blockAt o′ i ≡ blockAt o i
-    as-it-was = blocks-same (t .kept (i * 4) (omega arith)) (t .kept (i * 4 + 1) (omega arith)) (t .kept (i * 4 + 2) (omega arith)) (t .kept (i * 4 + 3) (omega arith))
+    as-it-was = ap blockOf (numbers-same blockSize o′ o (i * blockSize) (i * blockSize) (λ j l. t .kept (i * blockSize + j) (omega arith)))
 
 pub cut-whole : {xs : List ℕ} {i n : ℕ} {o o′ : List ℕ} → i ≡ n → CutTo xs i o o′ → CutTo xs n o o′
 cut-whole {xs} {o = o} {o′ = o′} e t = subst (λ (k : ℕ). CutTo xs k o o′) e t

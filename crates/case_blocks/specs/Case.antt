@@ -1,4 +1,5 @@
--- Document 02, order 9: blocks with both cases of each of their letters, and the letters of what narrowing leaves, in the cases entered.
+-- Document 02, order 9: blocks with both cases of each of their letters, and the letters of what narrowing leaves, in
+-- the cases entered.
 use mathlib.Core.Path.{_≡_}
 use mathlib.Core.List.{List, [], _∷_}
 use Prim.Native.Nat.{ℕ, _<_}
@@ -30,8 +31,8 @@ pub data Cuts : List Block → List Block → List Block → Type 0 where
   end : Cuts [] [] []
   next : {b j : Block} {S J H : List Block} → Cuts S J H → Cuts (b ∷ S) (j ∷ J) (cutBlock b j ∷ H)
 
--- H is left of the blocks S, and a letter that is left in one case is left in every case in which its block of S has it (document 02, order 9: "The narrowed bases keep
--- the letters in the cases the shape entered them with").
+-- H is left of the blocks S, and a letter that is left in one case is left in every case in which its block of S has it
+-- (document 02, order 9: "The narrowed bases keep the letters in the cases the shape entered them with").
 abbrev pub CasesStay : List Block → List Block → Type 0
 CasesStay S H = (i : ℕ) → i < length S → (c d : ℕ) → Holds (getD H i noBlock .base) c → Holds (getD S i noBlock .base) d → lowered d ≡ lowered c
     → Holds (getD H i noBlock .base) d

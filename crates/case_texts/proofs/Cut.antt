@@ -1,5 +1,6 @@
--- The hull of a rule over some blocks, from that of another rule over others: where each run that the one gives is one that the other gives, and each run that the
--- other gives has one of the same length that the one gives, with all of its characters that the block has. Assumes nothing.
+-- The hull of a rule over some blocks, from that of another rule over others: where each run that the one gives is one
+-- that the other gives, and each run that the other gives has one of the same length that the one gives, with all of
+-- its characters that the block has. Assumes nothing.
 use mathlib.Core.Path.{_≡_, sym, _∙_, subst}
 use mathlib.Core.List.{List}
 use Prim.Native.Nat.{ℕ, _<_}
@@ -8,7 +9,7 @@ use lib.Bits.{bitAnd}
 use lib.ListN.{length, getD}
 use Rattle.bases.specs.Base.{Holds}
 use Rattle.bases.proofs.Sets.{both, shared}
-use Rattle.shapes.specs.All.{All, none, more}
+use Rattle.plain.specs.All.{All, none, more}
 use Rattle.shapes.specs.Shape.{Block, Run, noBlock}
 use Rattle.hulls.specs.Hull.{None, Some, Satisfies, Taken, Occurs, Tight, Hull}
 use Rattle.hulls.proofs.Fill.{filling-at}

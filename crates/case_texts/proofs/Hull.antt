@@ -1,4 +1,5 @@
--- The hull of the pairs that are equal but for case: that of the pairs that are equal, over the blocks with both cases, cut with the blocks. Assumes nothing.
+-- The hull of the pairs that are equal but for case: that of the pairs that are equal, over the blocks with both cases,
+-- cut with the blocks. Assumes nothing.
 use mathlib.Core.Path.{_≡_, refl, sym, ap, _∙_, subst}
 use mathlib.Core.List.{List, [], _++_}
 use mathlib.Core.Logic.{⊎-elim}
@@ -6,11 +7,11 @@ use Prim.Native.Nat.{ℕ, _+_, _-_, _≤_, _<_}
 use native.Mathlib.Omega.{arith}
 use lib.ListN.{length, getD, take, drop, length-append, List·getD-append}
 use lib.Seq.{getD-append-add, getD-take, getD-drop, take-at, drop-at}
-use Rattle.bases.proofs.Plain.{lt-or-le}
+use Rattle.plain.proofs.Plain.{lt-or-le}
 use Rattle.texts.specs.Case.{AnyCase}
 use Rattle.texts.proofs.Case.{alike-any, any-alike, alike-sym, any-case-equal}
 use Rattle.shapes.specs.Shape.{Block, textOf}
-use Rattle.rests.specs.Walk.{Same}
+use Rattle.walks.specs.Walk.{Same}
 use Rattle.hulls.specs.Hull.{Pairs, Satisfies, None, Taken, Occurs, Hull}
 use Rattle.hulls.proofs.Fill.{filling-size, split-first, split-second, pair-satisfies}
 use Rattle.hulls.proofs.Hull.{one-hull}

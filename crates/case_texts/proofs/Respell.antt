@@ -1,4 +1,5 @@
--- Runs and fillings respelled: from blocks with both cases of their letters back to the blocks, and a filling as another text that is equal but for case. Assumes nothing.
+-- Runs and fillings respelled: from blocks with both cases of their letters back to the blocks, and a filling as
+-- another text that is equal but for case. Assumes nothing.
 use mathlib.Core.Path.{_≡_, refl, sym, ap, _∙_, subst}
 use mathlib.Core.List.{List, [], _∷_, _++_, List·Memᴰ·head, List·Memᴰ·tail, List·Memᴰ·cases-cons}
 use mathlib.Core.Logic.{⊎-elim}
@@ -12,7 +13,7 @@ use Rattle.letters.specs.Case.{SomeCase}
 use Rattle.letters.proofs.Bases.{some-held, some-like}
 use Rattle.texts.specs.Case.{lowered}
 use Rattle.texts.proofs.Case.{Alike, none, more, alike-refl, alike-append, alike-length, cut-alike}
-use Rattle.shapes.specs.All.{All}
+use Rattle.plain.specs.All.{All}
 use Rattle.shapes.specs.Shape.{Block, Run, Filling, done, fill, textOf, noBlock}
 use Rattle.hulls.specs.Hull.{Occurs}
 use Rattle.case_blocks.specs.Case.{Widened, Wide}

@@ -7,14 +7,14 @@ use native.Mathlib.Omega.{arith}
 use lib.Bits.{bitAnd}
 use lib.ListN.{length, getD, set, length-append, length-set, List·getD-append}
 use lib.Seq.{getD-append-add, getD-set-same}
-use Rattle.bases.proofs.Plain.{lt-or-le}
+use Rattle.plain.proofs.Plain.{lt-or-le}
 use Rattle.bases.proofs.Sets.{same-base, both, shared}
 use Rattle.letters.proofs.Bases.{some-held}
-use Rattle.shapes.specs.All.{All}
+use Rattle.plain.specs.All.{All}
 use Rattle.shapes.specs.Shape.{Block, Sound, Run, noBlock}
-use Rattle.shapes.proofs.All.{all-append, all-at}
+use Rattle.plain.proofs.All.{all-append, all-at}
 use Rattle.texts.specs.Case.{AnyCase}
-use Rattle.rests.specs.Walk.{Same}
+use Rattle.walks.specs.Walk.{Same}
 use Rattle.hulls.specs.Hull.{Pairs, Taken, Hull}
 use Rattle.hulls.proofs.Fill.{filling-size, filling-at, pair-satisfies}
 use Rattle.hulls.proofs.Frame.{some-filling, set-filling}

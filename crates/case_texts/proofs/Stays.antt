@@ -8,7 +8,7 @@ use lib.Seq.{getD-append-add, getD-set-same}
 use Rattle.bases.specs.Base.{Holds}
 use Rattle.texts.specs.Case.{lowered, AnyCase}
 use Rattle.texts.proofs.Case.{Alike, more, alike-refl, alike-any, alike-length}
-use Rattle.shapes.specs.All.{All}
+use Rattle.plain.specs.All.{All}
 use Rattle.shapes.specs.Shape.{Block, Run, noBlock}
 use Rattle.hulls.specs.Hull.{Pairs, Taken, Occurs, Hull}
 use Rattle.hulls.proofs.Fill.{filling-size, filling-at}

@@ -2,19 +2,19 @@
 use mathlib.Core.Path.{_≡_, refl, sym, ap, _∙_, subst}
 use mathlib.Core.List.{List}
 use mathlib.Core.Logic.{⊎-elim}
-use Prim.Native.Nat.{ℕ, _+_, _-_, _/_, _≤_, _<_}
+use Prim.Native.Nat.{ℕ, _+_, _-_, _≤_, _<_}
 use native.Mathlib.Omega.{arith}
 use lib.ListN.{length, take}
 use Rattle.bases.specs.Base.{Meets}
-use Rattle.bases.proofs.Plain.{lt-or-le}
+use Rattle.plain.proofs.Plain.{lt-or-le}
 use Rattle.sets.specs.Set.{Exactly}
 use Rattle.sets.proofs.Exact.{exactly-as, exactly-at}
 use Rattle.shapes.specs.Shape.{Block, total, blockCount}
 use Rattle.shapes.specs.Lent.{shapeOf, blockAt}
-use Rattle.rests.specs.Walk.{Path, slotAt}
+use Rattle.walks.specs.Walk.{slotAt}
 use Rattle.pads.specs.Pad.{PadPath}
 use Rattle.pads.proofs.Paths.{path-pad, pad-path, slot-roomy}
-use Rattle.rows.specs.Row.{rowIn, PutRow, tableSize}
+use Rattle.rows.specs.Row.{rowIn, PutRow, tableSize, rowCount}
 use Rattle.rows.specs.Steps.{Leads}
 use Rattle.row_lay.proofs.Laid.{total-all, total-more, total-zero, upper-within}
 use Rattle.row_paths.specs.Rows.{Zones, LeadsOn, end, taken}
@@ -32,7 +32,8 @@ MineIs x y h r = Exactly r (λ q. Meets (blockAt x h .base) (slotAt (shapeOf y) 
 abbrev RowIs : List ℕ → List ℕ → ℕ → ℕ → Type 0
 RowIs x y i r = Exactly r (λ j. PadPath (slotAt (shapeOf x)) (slotAt (shapeOf y)) (total (shapeOf x)) (total (shapeOf y)) i j)
 
--- The blocks of x from block i on, which starts at p: where their bases meet those of y, and the rows from p on, of which s is the first.
+-- The blocks of x from block i on, which starts at p: where their bases meet those of y, and the rows from p on, of
+-- which s is the first.
 pub record PassFrom (x y : List ℕ) (i p : ℕ) (mines rows : List ℕ) (s : ℕ) : Type 0 where
   place : p ≡ total (take i (shapeOf x))
   mine : (h : ℕ) → i ≤ h → h < blockCount x → MineIs x y h (rowIn mines h)
@@ -40,7 +41,7 @@ pub record PassFrom (x y : List ℕ) (i p : ℕ) (mines rows : List ℕ) (s : �
   next : RowIs x y p s
 
 -- where the block before starts
-pub pass-place : (x : List ℕ) {y mines rows : List ℕ} {n p s : ℕ} (i : ℕ) → i < length x / 4 → n ≡ i + 1 → PassFrom x y n p mines rows s
+pub pass-place : (x : List ℕ) {y mines rows : List ℕ} {n p s : ℕ} (i : ℕ) → i < blockCount x → n ≡ i + 1 → PassFrom x y n p mines rows s
     → p ≡ total (take i (shapeOf x)) + blockAt x i .upper
 pass-place x i l d t = t .place ∙ ap (λ (z : ℕ). total (take z (shapeOf x))) d ∙ total-more x i l
 
@@ -55,7 +56,7 @@ row-last x y z v ro = left-row z (exactly-as (λ j h. end refl h) leaves v) ro
 
 module _ {x y : List ℕ} {Z E : ℕ → ℕ} {k : ℕ} (z : Zones (slotAt (shapeOf y)) Z E k) where
   -- the last row, before all blocks
-  pub pass-last : (mines : List ℕ) {rows rows′ : List ℕ} {n p m seeds s : ℕ} → n ≡ length x / 4 → p ≡ total (shapeOf x) → m ≡ total (shapeOf y)
+  pub pass-last : (mines : List ℕ) {rows rows′ : List ℕ} {n p m seeds s : ℕ} → n ≡ blockCount x → p ≡ total (shapeOf x) → m ≡ total (shapeOf y)
       → Exactly seeds (λ e. e ≡ m) → Exactly s (Leads Z E k seeds) → PutRow rows p s rows′ → PassFrom x y n p mines rows′ s
   pass-last mines {rows′ = rows′} {n} {p} {m} {seeds} {s} d e f v ro u =
       let last : RowIs x y p s = subst (λ (q : ℕ). RowIs x y q s) (sym e)
@@ -68,7 +69,7 @@ module _ {x y : List ℕ} {Z E : ℕ → ℕ} {k : ℕ} (z : Zones (slotAt (shap
       }
 
   -- one more block, from p to q
-  pub pass-more : {i n p q mine s r : ℕ} {b : Block} {mines mines′ rows rows′ : List ℕ} → n ≡ i + 1 → i < length x / 4 → b ≡ blockAt x i → q ≡ p + b .upper
+  pub pass-more : {i n p q mine s r : ℕ} {b : Block} {mines mines′ rows rows′ : List ℕ} → n ≡ i + 1 → i < blockCount x → b ≡ blockAt x i → q ≡ p + b .upper
       → Exactly mine (λ j. Meets (b .base) (slotAt (shapeOf y) j .base)) → PassFrom x y n q mines rows s → PutRow mines i mine mines′
       → Whenever Z E k mine p b (BlockKept s rows′ p b r) → RowsAfter (p + b .upper) rows rows′ → PassFrom x y i p mines′ rows′ r
   pass-more {i} {n} {p} {q} {mine} {s} {r} {b} {mines} {mines′} {rows} {rows′} d l be qe m t u f w = record {
@@ -101,7 +102,7 @@ module _ {x y : List ℕ} {Z E : ℕ → ℕ} {k : ℕ} (z : Zones (slotAt (shap
           (subst (λ (v : ℕ). RowIs x y v s) qe (t .next))
 
 -- the first block reached, from position 0 on
-pub pass-all : {x y mines rows : List ℕ} {i p s : ℕ} → i ≡ 0 → length x ≤ length mines → length rows ≡ tableSize → PassFrom x y i p mines rows s → EndRows x y mines rows
+pub pass-all : {x y mines rows : List ℕ} {i p s : ℕ} → i ≡ 0 → blockCount x ≤ rowCount mines → length rows ≡ tableSize → PassFrom x y i p mines rows s → EndRows x y mines rows
 pass-all {x} {y} {i = i} {p = p} e g w t =
     let at : p ≡ 0 = t .place ∙ ap (λ (j : ℕ). total (take j (shapeOf x))) e ∙ total-zero (shapeOf x) in
     record { mine = λ h l. t .mine h (omega arith) l; row = λ h l. exactly-as (λ j. pad-path (slot-roomy (shapeOf x)) (slot-roomy (shapeOf y))) (λ j. path-pad (slot-roomy (shapeOf x)) (slot-roomy (shapeOf y))) (t .row h (omega arith) l); mines-long = g; rows-long = w }

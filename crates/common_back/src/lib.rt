@@ -1,13 +1,16 @@
-// The pass from the ends that keeps its rows: for each position of one shape the row of the positions of the other from which one text leads both to their ends.
+// The pass from the ends that keeps its rows: for each position of one shape the row of the positions of the other from
+// which one text leads both to their ends.
 ghost use mathlib.Core.Path.{_≡_};
 ghost use Prim.Native.Nat.{_≤_};
 ghost use lib.ListN.{length};
 ghost use Rattle.shapes.specs.Lent.{Whole};
-ghost use Rattle.rows.specs.Row.{tableSize};
+ghost use Rattle.rows.specs.Row.{tableSize, rowCount};
 ghost use Rattle.row_paths.specs.Laid.{Laid};
+ghost use Rattle.shapes.specs.Shape.{blockCount};
 ghost use Rattle.common_back.specs.Back.{EndRows};
 
-// The rows of all blocks of x beside y, which is laid out in `zones`, `ends` and `slots`, from the last block to the first.
+// The rows of all blocks of x beside y, which is laid out in `zones`, `ends` and `slots`, from the last block to the
+// first.
 pub fn back(
     x: &[u64],
     y: &[u64],
@@ -19,7 +22,7 @@ pub fn back(
 )
     requires { ⌜ Whole (now x) ⌝ }
     requires { ⌜ Laid (now y) (now zones) (now ends) (now slots) ⌝ }
-    requires { ⌜ (length (now x) ≤ length (now mines)) × (length (now rows) ≡ tableSize) ⌝ }
+    requires { ⌜ (blockCount (now x) ≤ rowCount (now mines)) × (length (now rows) ≡ tableSize) ⌝ }
     ensures { λ _. ⌜ EndRows (now (x .entry)) (now (y .entry)) (now (mines .exit)) (now (rows .exit)) ⌝ }
     ensures { λ _. ⌜ (length (now (mines .exit)) ≡ length (now (mines .entry))) × (length (now (rows .exit)) ≡ length (now (rows .entry))) ⌝ }
 {

@@ -1,39 +1,32 @@
--- The earliest common text is one, and the call's promise determines the answer, the output and the work. Assumes nothing.
+-- The earliest common text is one, and the call's promise determines the answer, the output and the work. Assumes
+-- nothing.
 use mathlib.Core.Path.{_≡_, refl, sym, ap, _∙_}
 use mathlib.Core.List.{List, _++_}
 use Prim.Native.Nat.{ℕ}
-use native.Mathlib.Omega.{arith}
 use lib.ListN.{length, drop}
 use Rattle.answers.specs.Told.{Told}
 use Rattle.answers.specs.declared.Shown.{Shown}
 use Rattle.answers.specs.declared.Shown.the-variants.{Text, None as no-text, Refused}
 use Rattle.answers.proofs.Told.{told-one}
+use Rattle.answers.proofs.Turns.{OneOf, need-one, in-turn-one}
 use Rattle.shapes.specs.Shape.{Block}
 use Rattle.texts.proofs.Order.{at-most-antisym}
 use Rattle.pairs.specs.Pair.{PairAccepted}
-use Rattle.pairs.proofs.Pair.{pair-one, pair-not}
+use Rattle.pairs.proofs.Pair.{of-pair}
 use Rattle.common_texts.specs.Earliest.{Earliest, NoCommon, TextShown, ShowAnswer}
-use Rattle.common_calls.specs.Common.{ShowRoom, ShowRefused, ShowAccepts, ShowPromise}
-use Rattle.common_calls.specs.Common.ShowRefused.{shapes, short-work, short-output}
+use Rattle.common_calls.specs.Common.{ShowRoom, showTurns, ShowRefused, ofShowing, ShowAccepts, ShowPromise}
 
 -- ---- the refusals
 
 module _ {xs ys : List ℕ} {w a : ℕ} where
+  of-showing : OneOf (ofShowing xs ys w a)
+  of-showing = in-turn-one (showTurns xs ys w a) (of-pair, (need-one, (need-one, tt))) (λ (ok, r). (ok, (r .work, (r .output, tt))))
+
   pub show-refused-one : {t u : Told} → ShowRefused xs ys w a t → ShowRefused xs ys w a u → t ≡ u
-  show-refused-one (shapes p) (shapes q) = pair-one p q
-  show-refused-one (shapes p) (short-work ok h e) = absurd (pair-not p ok)
-  show-refused-one (shapes p) (short-output ok h g e) = absurd (pair-not p ok)
-  show-refused-one (short-work ok h e) (shapes q) = absurd (pair-not q ok)
-  show-refused-one (short-work ok h e) (short-work ok′ h′ e′) = e ∙ sym e′
-  show-refused-one (short-work ok h e) (short-output ok′ h′ g′ e′) = absurd (omega arith)
-  show-refused-one (short-output ok h g e) (shapes q) = absurd (pair-not q ok)
-  show-refused-one (short-output ok h g e) (short-work ok′ h′ e′) = absurd (omega arith)
-  show-refused-one (short-output ok h g e) (short-output ok′ h′ g′ e′) = e ∙ sym e′
+  show-refused-one p q = of-showing .one p q
 
   pub show-refused-not : {t : Told} → ShowRefused xs ys w a t → PairAccepted xs ys → ShowRoom w a → ⊥
-  show-refused-not (shapes p) ok r = pair-not p ok
-  show-refused-not (short-work _ h e) ok r = let g = r .work in omega arith
-  show-refused-not (short-output _ h g e) ok r = let k = r .output in omega arith
+  show-refused-not p ok r = of-showing .not p (ok, r)
 
 -- ---- the text
 

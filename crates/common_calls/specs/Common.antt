@@ -1,14 +1,15 @@
--- Document 02, order 2: what the call for the earliest common text promises. Lent: two shapes xs and ys, work, one output; with ′ they are as handed back.
+-- Document 02, order 2: what the call for the earliest common text promises. Lent: two shapes xs and ys, work, one
+-- output; with ′ they are as handed back.
 use mathlib.Core.Path.{_≡_}
-use mathlib.Core.List.{List}
-use Prim.Native.Nat.{ℕ, _≤_, _<_}
+use mathlib.Core.List.{List, [], _∷_}
+use Prim.Native.Nat.{ℕ, _≤_}
 use lib.ListN.{length}
 use Rattle.answers.specs.Told.{Told, tell, told}
+use Rattle.answers.specs.Turns.{Turn, FirstDue, inTurn, TurnChecked, need}
 use Rattle.answers.specs.declared.Checked.{Checked}
-use Rattle.answers.specs.declared.Checked.the-variants.{Sound, Refused as refused}
 use Rattle.answers.specs.declared.Shown.{Shown}
 use Rattle.answers.specs.declared.Shown.the-variants.{Text, None as no-text, Refused}
-use Rattle.pairs.specs.Pair.{PairAccepted, PairRefused}
+use Rattle.pairs.specs.Pair.{PairAccepted, ofPair}
 use Rattle.pairs.specs.Narrow.{Cleared}
 use Rattle.common_texts.specs.Earliest.{TextShown, NothingShown}
 
@@ -18,14 +19,17 @@ pub record ShowRoom (w a : ℕ) : Type 0 where
   pub output : 250 ≤ a
 
 -- The refusals of a pair, then 4, then 5; there is one output, so that it has no number.
-pub data ShowRefused (xs ys : List ℕ) (w a : ℕ) (t : Told) : Type 0 where
-  shapes : PairRefused xs ys t → ShowRefused xs ys w a t
-  short-work : PairAccepted xs ys → w < 63001 → t ≡ tell 4 0 0 → ShowRefused xs ys w a t
-  short-output : PairAccepted xs ys → 63001 ≤ w → a < 250 → t ≡ tell 5 0 0 → ShowRefused xs ys w a t
+abbrev pub showTurns : List ℕ → List ℕ → ℕ → ℕ → List Turn
+showTurns xs ys w a = ofPair xs ys ∷ need (63001 ≤ w) (tell 4 0 0) ∷ need (250 ≤ a) (tell 5 0 0) ∷ []
+
+abbrev pub ShowRefused : List ℕ → List ℕ → ℕ → ℕ → Told → Type 0
+ShowRefused xs ys w a = FirstDue (showTurns xs ys w a)
+
+abbrev pub ofShowing : List ℕ → List ℕ → ℕ → ℕ → Turn
+ofShowing xs ys w a = inTurn (PairAccepted xs ys × ShowRoom w a) (showTurns xs ys w a)
 
 abbrev pub ShowChecked : List ℕ → List ℕ → ℕ → ℕ → Checked → Type 0
-ShowChecked xs ys w a Sound = PairAccepted xs ys × ShowRoom w a
-ShowChecked xs ys w a (refused r) = ShowRefused xs ys w a (told r)
+ShowChecked xs ys w a = TurnChecked (ofShowing xs ys w a)
 
 pub record ShowAccepts (xs ys work out work′ : List ℕ) : Type 0 where
   pub shapes : PairAccepted xs ys

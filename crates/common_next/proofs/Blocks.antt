@@ -1,21 +1,21 @@
 -- The positions of block a of a lent shape, before and after they are weighed; all blocks. Assumes nothing.
 use mathlib.Core.Path.{_≡_, refl, sym, ap, _∙_, subst}
 use mathlib.Core.List.{List}
-use mathlib.Core.Logic.{_⊎_, inl, ⊎-elim}
-use Prim.Native.Nat.{ℕ, _+_, _/_, _^_, _≤_, _<_}
+use mathlib.Core.Logic.{inl, ⊎-elim}
+use Prim.Native.Nat.{ℕ, _+_, _^_, _≤_, _<_}
 use native.Mathlib.Omega.{arith}
 use lib.Bits.{bitAnd}
-use lib.ListN.{length, take}
+use lib.ListN.{take}
 use Rattle.bases.specs.Base.{Holds, Empty, Meets, Least, codes}
 use Rattle.bases.proofs.Laws.{none-in-zero}
-use Rattle.bases.proofs.Plain.{lt-or-le}
+use Rattle.plain.proofs.Plain.{lt-or-le}
 use Rattle.bases.proofs.Sets.{both}
 use Rattle.sets.specs.Set.{setOf, Exactly}
 use Rattle.sets.proofs.Exact.{exactly-as, both-exactly, held-under}
-use Rattle.shapes.specs.Shape.{Block, noBlock, total}
+use Rattle.shapes.specs.Shape.{Block, noBlock, total, blockCount}
 use Rattle.shapes.specs.Lent.{shapeOf, blockAt}
 use Rattle.shapes.proofs.Lent.{shape-length, shape-at}
-use Rattle.rests.specs.Walk.{slotAt}
+use Rattle.walks.specs.Walk.{slotAt}
 use Rattle.rows.specs.Row.{rowIn}
 use Rattle.rows.specs.Steps.{Matched}
 use Rattle.row_lay.proofs.Laid.{total-zero, total-more, total-all, upper-within}
@@ -37,7 +37,7 @@ pub near-all : {y : List ℕ} {Q near : ℕ} → Exactly near (λ c. c < 256) �
 near-all x = record { all = λ j c b q h. x .has c b }
 
 -- every character at the positions Q
-pub near-of : {y z e s : List ℕ} → Laid y z e s → {k : ℕ} → k ≡ length y / 4 → (Q : ℕ) {near : ℕ} → Exactly near (Matched (rowIn s) (λ i. blockAt y i .base) k Q) → Near y Q near
+pub near-of : {y z e s : List ℕ} → Laid y z e s → {k : ℕ} → k ≡ blockCount y → (Q : ℕ) {near : ℕ} → Exactly near (Matched (rowIn s) (λ i. blockAt y i .base) k Q) → Near y Q near
 near-of {y} l d Q x = record {
   all = λ j c b q h.
       let r = slot-rows-at y d (l .lay) in
@@ -47,7 +47,7 @@ near-of {y} l d Q x = record {
 
 -- ---- the slots of block a
 
-module _ {x s : List ℕ} (l : Slotted x s) {a : ℕ} (h : a < length x / 4) where
+module _ {x s : List ℕ} (l : Slotted x s) {a : ℕ} (h : a < blockCount x) where
   -- a position of its row is one of its slots
   slot : (i : ℕ) → Holds (rowIn s a) i → (total (take a (shapeOf x)) ≤ i) × (i < total (take (a + 1) (shapeOf x))) × (slotAt (shapeOf x) i .base ≡ blockAt x a .base)
   slot i g =
@@ -75,7 +75,7 @@ module _ (x y : List ℕ) (P Q : ℕ) where
 
   -- ---- one block
 
-  module _ {s : List ℕ} (l : Slotted x s) {a : ℕ} (h : a < length x / 4) where
+  module _ {s : List ℕ} (l : Slotted x s) {a : ℕ} (h : a < blockCount x) where
     pub block-begun : {left code kept seen : ℕ} → Exactly left (λ i. Holds P i × Holds (rowIn s a) i) → seen ≡ 0 → Chosen (λ i. Holds P i × (i < total (take a (shapeOf x)))) code kept
         → Weigh (blockAt x a .base) (total (take (a + 1) (shapeOf x))) left code kept seen
     unfolding Empty
@@ -136,7 +136,7 @@ module _ (x y : List ℕ) (P Q : ℕ) where
   found-as : {D : ℕ → Type 0} {code kept code′ kept′ : ℕ} → code′ ≡ code → kept′ ≡ kept → Chosen D code kept → Chosen D code′ kept′
   found-as {D} {kept = kept} {code′} e k f = subst (Chosen D code′) (sym k) (subst (λ (c : ℕ). Chosen D c kept) (sym e) f)
 
-  module _ {s mines rows : List ℕ} (l : Slotted x s) (t : EndRows x y mines rows) {a : ℕ} (h : a < length x / 4) {left : ℕ} (at : Exactly left (λ i. Holds P i × Holds (rowIn s a) i)) where
+  module _ {s mines rows : List ℕ} (l : Slotted x s) (t : EndRows x y mines rows) {a : ℕ} (h : a < blockCount x) {left : ℕ} (at : Exactly left (λ i. Holds P i × Holds (rowIn s a) i)) where
     -- its positions are within the shape
     members-within : (i : ℕ) → Holds left i → i < total (shapeOf x)
     members-within i g = let w = slot l h i (at .so i g .1) .1 in let m = total-more x a h in let u = upper-within x a h in omega arith
@@ -172,7 +172,7 @@ module _ (x y : List ℕ) (P Q : ℕ) where
     kept-all = record { so = λ i g. subst (λ (v : ℕ). Holds v i) k g; live = λ i j c p q g. subst (λ (v : ℕ). Holds v i) (sym k) p };
   }
 
-  pub all-found : {n code kept : ℕ} → length x / 4 ≤ n → Chosen (λ i. Holds P i × (i < total (take n (shapeOf x)))) code kept → Chosen (Holds P) code kept
+  pub all-found : {n code kept : ℕ} → blockCount x ≤ n → Chosen (λ i. Holds P i × (i < total (take n (shapeOf x)))) code kept → Chosen (Holds P) code kept
   all-found {n} le f = record {
     least = least-more (λ i d. d .0) (λ c m. inl (record {
       own = m .own;

@@ -10,12 +10,13 @@ ghost use Rattle.bases.specs.Base.{Holds};
 ghost use Rattle.sets.specs.Set.{setOf, Exactly};
 ghost use Rattle.shapes.specs.Shape.{blockCount};
 ghost use Rattle.shapes.specs.Lent.{shapeOf};
-ghost use Rattle.rests.specs.Walk.{slotAt};
+ghost use Rattle.walks.specs.Walk.{slotAt};
 ghost use Rattle.common_back.specs.Back.{EndRows};
-ghost use Rattle.common_weighs.specs.Next.{Ended, After, Ending, Slotted};
+ghost use Rattle.common_weighs.specs.Next.{RunsEnded, After, RunEnds, Slotted};
 ghost use Rattle.common_weighs.specs.Code.{Near, ChosenBy, ChosenTo};
 
-// Where the text so far leads in one shape, where its last character may stand in it, where its runs may end, and where they then are.
+// Where the text so far leads in one shape, where its last character may stand in it, where its runs may end, and where
+// they then are.
 pub struct Front {
     pub row: Set,
     pub takes: Set,
@@ -38,7 +39,7 @@ fn taking(shape: &[u64], slots: &[u64], takes: Set, again: bool, code: usize) ->
 
 // A row with what the ends of runs lead to from it; nothing more where no run may end.
 fn onward(free: Set, stops: Set, s: Set) -> Set
-    ensures { λ r. ⌜ ((x : List ℕ) → Ending x (setOf free) (setOf stops) → Exactly (setOf r) (Ended (slotAt (shapeOf x)) (setOf s))) ⌝ }
+    ensures { λ r. ⌜ ((x : List ℕ) → RunEnds x (setOf free) (setOf stops) → Exactly (setOf r) (RunsEnded (slotAt (shapeOf x)) (setOf s))) ⌝ }
 {
     if sets::meets(s, free) {
         return row_steps::close_forth(Runs { free, stops }, s);
@@ -49,11 +50,11 @@ fn onward(free: Set, stops: Set, s: Set) -> Set
 // One shape read one character on.
 pub fn read(shape: &[u64], slots: &[u64], side: Front, again: bool, code: usize) -> Front
     requires { ⌜ Slotted (now shape) (now slots) ⌝ }
-    requires { ⌜ (code < 256) × Ending (now shape) (setOf (side .free)) (setOf (side .stops)) ⌝ }
+    requires { ⌜ (code < 256) × RunEnds (now shape) (setOf (side .free)) (setOf (side .stops)) ⌝ }
     requires { ⌜ (again ≡ true → Exactly (setOf (side .takes)) (λ q. Holds (slotAt (shapeOf (now shape)) q .base) code)) ⌝ }
     ensures { λ r. ⌜ Exactly (setOf (r .takes)) (λ q. Holds (slotAt (shapeOf (now (shape .entry))) q .base) code) ⌝ }
     ensures { λ r. ⌜ Exactly (setOf (r .row)) (After (slotAt (shapeOf (now (shape .entry)))) (setOf (side .row)) code) ⌝ }
-    ensures { λ r. ⌜ Ending (now (shape .entry)) (setOf (r .free)) (setOf (r .stops)) ⌝ }
+    ensures { λ r. ⌜ RunEnds (now (shape .entry)) (setOf (r .free)) (setOf (r .stops)) ⌝ }
 {
     let row = side.row;
     let free = side.free;
@@ -110,7 +111,8 @@ fn weigh_block(
     ))
 }
 
-// The characters at the positions `other` of y. Where there is at most one position to weigh they are not asked for, and all will do.
+// The characters at the positions `other` of y. Where there is at most one position to weigh they are not asked for,
+// and all will do.
 fn nearby(own: Set, other: Set, y: &[u64], slots: &[u64]) -> Set
     requires { ⌜ Slotted (now y) (now slots) ⌝ }
     ensures { λ r. ⌜ Near (now (y .entry)) (setOf other) (setOf r) ⌝ }
@@ -124,7 +126,8 @@ fn nearby(own: Set, other: Set, y: &[u64], slots: &[u64]) -> Set
     row_steps::joined(other, y, slots, y.len() / shapes::SIZE)
 }
 
-// The least character that may come next where the text so far leads to the positions `own` of x and `other` of y; 256 if none may.
+// The least character that may come next where the text so far leads to the positions `own` of x and `other` of y; 256
+// if none may.
 pub fn next(
     x: &[u64],
     y: &[u64],

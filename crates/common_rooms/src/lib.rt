@@ -4,13 +4,13 @@ use common_writes::Totals;
 ghost use Prim.Native.Nat.{_≤_};
 ghost use lib.ListN.{length};
 ghost use Rattle.shapes.specs.Lent.{Whole};
-ghost use Rattle.rows.specs.Row.{layoutSize};
 ghost use Rattle.common_texts.specs.Earliest.{ShowAnswer};
+ghost use Rattle.shapes.specs.Shape.{blockCount, mostBlocks};
 
 // The earliest common text of two shapes of at most 32 blocks, at the start of the output.
 pub fn earliest(x: &[u64], y: &[u64], out: &mut [u8]) -> Shown
     requires { ⌜ Whole (now x) × Whole (now y) ⌝ }
-    requires { ⌜ (length (now x) ≤ layoutSize) × (length (now y) ≤ layoutSize) ⌝ }
+    requires { ⌜ (blockCount (now x) ≤ mostBlocks) × (blockCount (now y) ≤ mostBlocks) ⌝ }
     requires { ⌜ 250 ≤ length (now out) ⌝ }
     ensures { λ r. ⌜ ShowAnswer (now (x .entry)) (now (y .entry)) (now (out .entry)) (now (out .exit)) r ⌝ }
 {

@@ -1,18 +1,18 @@
--- Before the first character both stand at their starts; what is earliest from there is the earliest common text. Assumes nothing.
+-- Before the first character both stand at their starts; what is earliest from there is the earliest common text.
+-- Assumes nothing.
 use mathlib.Core.Path.{_≡_, refl, sym, subst}
 use mathlib.Core.List.{List, []}
-use Prim.Native.Nat.{ℕ, _+_, _/_}
+use Prim.Native.Nat.{ℕ, _+_}
 use native.Mathlib.Omega.{arith}
-use lib.ListN.{length}
 use Rattle.bases.specs.Base.{Holds}
 use Rattle.sets.specs.Set.{setOf, Exactly}
 use Rattle.sets.proofs.Exact.{exactly-as}
-use Rattle.shapes.specs.Shape.{total, Fits}
+use Rattle.shapes.specs.Shape.{total, Fits, blockCount}
 use Rattle.shapes.specs.Lent.{Whole, shapeOf, blockAt}
-use Rattle.rests.specs.Walk.{Walk, here, skip, slotAt}
-use Rattle.rests.proofs.Walks.{walk-append, walk-to, walk-text, path-of}
-use Rattle.rests.proofs.Laid.{slots, bounded}
-use Rattle.rests.proofs.Fillings.{filling-walk, walk-fits}
+use Rattle.walks.specs.Walk.{Walk, here, skip, slotAt}
+use Rattle.walks.proofs.Walks.{walk-append, walk-to, walk-text, path-of}
+use Rattle.walks.proofs.Laid.{slots, bounded}
+use Rattle.walks.proofs.Fillings.{filling-walk, walk-fits}
 use Rattle.rows.specs.Row.{rowIn}
 use Rattle.rows.specs.Steps.{Leads, Matched, Together}
 use Rattle.row_paths.specs.Laid.{Laid}
@@ -25,7 +25,7 @@ use Rattle.common_writes.specs.Code.{Finishes, Meeting, Stands, Started, AtMost
 
 -- ---- the start
 
-pub started : {x z e′ l : List ℕ} → Laid x z e′ l → {s : Front} {k one two : ℕ} → k ≡ length x / 4 → Exactly one (λ c. c ≡ 0) → Exactly (setOf (s .row)) (Leads (rowIn e′) (rowIn z) k one)
+pub started : {x z e′ l : List ℕ} → Laid x z e′ l → {s : Front} {k one two : ℕ} → k ≡ blockCount x → Exactly one (λ c. c ≡ 0) → Exactly (setOf (s .row)) (Leads (rowIn e′) (rowIn z) k one)
     → Exactly two (λ c. c ≡ 0) → Exactly (setOf (s .takes)) (Matched (λ j. blockAt x j .base) (rowIn l) k two) → Together (rowIn z) (rowIn e′) k (setOf (s .free)) (setOf (s .stops)) → Started x s
 started {x} {z} {e′} d {s = s} e o r o′ t f = record {
   row = exactly-as

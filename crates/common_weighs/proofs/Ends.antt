@@ -1,34 +1,33 @@
--- A row closed forwards under the ends of runs, and one character on; which positions and characters two bases share. Assumes nothing.
+-- A row closed forwards under the ends of runs, and one character on; which positions and characters two bases share.
+-- Assumes nothing.
 use mathlib.Core.Path.{_≡_, refl, sym, subst}
 use mathlib.Core.List.{List, []}
 use mathlib.Core.Logic.{inl, inr}
-use Prim.Native.Nat.{ℕ, _+_, _*_, _/_, _%_, _^_, _≤_, _<_}
+use Prim.Native.Nat.{ℕ, _+_, _*_, _%_, _^_, _≤_, _<_}
 use native.Mathlib.Omega.{arith}
 use lib.Bits.{bitAnd}
-use lib.ListN.{length}
 use Rattle.bases.specs.Base.{Holds, Empty, Meets, Least}
 use Rattle.sets.specs.Set.{Exactly, OneUp}
 use Rattle.sets.proofs.Exact.{exactly-as, both-exactly, up-exactly}
-use Rattle.shapes.specs.Shape.{Block, total}
+use Rattle.shapes.specs.Shape.{Block, total, blockCount}
 use Rattle.shapes.specs.Lent.{shapeOf, blockAt}
-use Rattle.rests.specs.Walk.{Walk, here, skip, slotAt}
-use Rattle.rests.proofs.Walks.{walk-append}
+use Rattle.walks.specs.Walk.{Walk, here, skip, slotAt}
+use Rattle.walks.proofs.Walks.{walk-append}
 use Rattle.rows.specs.Row.{rowIn}
 use Rattle.rows.specs.Steps.{Leads, there, step, Matched}
 use Rattle.row_paths.specs.Laid.{Laid}
 use Rattle.row_paths.specs.Rows.{Zones}
 use Rattle.row_paths.proofs.Chars.{SlotRows}
 use Rattle.row_paths.proofs.Laid.{laid-zones, laid-meets}
-use Rattle.row_paths.proofs.Shapes.{free-within, held-within}
-use Rattle.rests.proofs.Laid.{bounded}
+use Rattle.row_paths.proofs.Shapes.{held-within}
 use Rattle.row_paths.proofs.Lent.{slot-rows-at}
-use Rattle.common_weighs.specs.Next.{Ended, After, Ending}
+use Rattle.common_weighs.specs.Next.{RunsEnded, After, RunEnds}
 use Rattle.common_weighs.specs.Code.{SharedAt, Sooner}
 
 -- ---- the ends of runs
 
 module _ {X : ℕ → Block} {Z E : ℕ → ℕ} {k : ℕ} (z : Zones X Z E k) where
-  leads-ended : {s q : ℕ} → Leads E Z k s q → Ended X s q
+  leads-ended : {s q : ℕ} → Leads E Z k s q → RunsEnded X s q
   leads-ended {q = q} (there h) = record { from = q; held = h; walk = here refl }
   leads-ended {q = q} (step {e = e} j l to from r) =
       let w = leads-ended r in
@@ -38,11 +37,11 @@ module _ {X : ℕ → Block} {Z E : ℕ → ℕ} {k : ℕ} (z : Zones X Z E k) w
   walk-leads {s} (here e) r = subst (Leads E Z k s) e r
   walk-leads {p = p} (skip l w) r = let f = z .find p l in walk-leads w (step (f .0) (f .1) (f .3) (f .2) r)
 
-  pub ended-row : {s r : ℕ} → Exactly r (Leads E Z k s) → Exactly r (Ended X s)
+  pub ended-row : {s r : ℕ} → Exactly r (Leads E Z k s) → Exactly r (RunsEnded X s)
   ended-row x = exactly-as (λ q l. leads-ended l) (λ q w. walk-leads (w .walk) (there (w .held))) x
 
 -- where no run may end, nothing more
-pub ended-none : (x : List ℕ) (free s : ℕ) {stops : ℕ} → Ending x free stops → (Meets s free → ⊥) → Exactly s (Ended (slotAt (shapeOf x)) s)
+pub ended-none : (x : List ℕ) (free s : ℕ) {stops : ℕ} → RunEnds x free stops → (Meets s free → ⊥) → Exactly s (RunsEnded (slotAt (shapeOf x)) s)
 ended-none x free s f n = record { so = λ q h. record { from = q; held = h; walk = here refl }; has = λ q w. at q (w .from) (w .held) (w .walk) }
   where
     at : (q p : ℕ) → Holds s p → Walk (slotAt (shapeOf x)) q p [] → Holds s q
@@ -53,7 +52,7 @@ ended-none x free s f n = record { so = λ q h. record { from = q; held = h; wal
 
 -- one character on
 pub row-after : (x : List ℕ) (row takes c : ℕ) {a u r : ℕ} → total (shapeOf x) ≤ 250 → Exactly takes (λ q. Holds (slotAt (shapeOf x) q .base) c) → a ≡ bitAnd row takes → u ≡ a * 2 % 2 ^ 256
-    → Exactly r (Ended (slotAt (shapeOf x)) u) → Exactly r (After (slotAt (shapeOf x)) row c)
+    → Exactly r (RunsEnded (slotAt (shapeOf x)) u) → Exactly r (After (slotAt (shapeOf x)) row c)
 row-after x row takes c {a} {u} short t d e y = exactly-as to from y
   where
     held : Exactly a (λ q. Holds row q × Holds takes q)
@@ -62,20 +61,20 @@ row-after x row takes c {a} {u} short t d e y = exactly-as to from y
     up : Exactly u (λ q. (q < 256) × OneUp a q)
     up = up-exactly a 256 e
 
-    to : (q : ℕ) → Ended (slotAt (shapeOf x)) u q → After (slotAt (shapeOf x)) row c q
+    to : (q : ℕ) → RunsEnded (slotAt (shapeOf x)) u q → After (slotAt (shapeOf x)) row c q
     to q w =
         let o = up .so (w .from) (w .held) .1 in
         let h = held .so (o .number) (o .held) in
         record { from = o .number; held = h .0; takes = t .so (o .number) (h .1); ends = subst (λ (p : ℕ). Walk (slotAt (shapeOf x)) q p []) (o .next) (w .walk) }
 
-    from : (q : ℕ) → After (slotAt (shapeOf x)) row c q → Ended (slotAt (shapeOf x)) u q
+    from : (q : ℕ) → After (slotAt (shapeOf x)) row c q → RunsEnded (slotAt (shapeOf x)) u q
     from q w =
         let b = held-within (shapeOf x) (w .from) c (w .takes) in
         record { from = w .from + 1; held = up .has (w .from + 1) (omega arith, record { number = w .from; held = held .has (w .from) (w .held, t .has (w .from) (w .takes)); next = refl }); walk = w .ends }
 
 -- ---- the positions that take a character
 
-pub takes-char : {x z e s : List ℕ} → Laid x z e s → {k one m code : ℕ} → k ≡ length x / 4 → Exactly one (λ c. c ≡ code)
+pub takes-char : {x z e s : List ℕ} → Laid x z e s → {k one m code : ℕ} → k ≡ blockCount x → Exactly one (λ c. c ≡ code)
     → Exactly m (Matched (λ j. blockAt x j .base) (rowIn s) k one) → Exactly m (λ q. Holds (slotAt (shapeOf x) q .base) code)
 takes-char {x} l {code = code} d o y = exactly-as
     (λ q m. subst (Holds (slotAt (shapeOf x) q .base)) (o .so (m .shared) (m .second)) (m .first))
@@ -106,7 +105,7 @@ module _ {Y : ℕ → Block} {B S : ℕ → ℕ} {k : ℕ} (s : SlotRows Y B S k
             }),
           )
 
-pub shared-row : {y z e s : List ℕ} → Laid y z e s → {k : ℕ} → k ≡ length y / 4 → (base row : ℕ) {j n : ℕ} → Exactly j (Matched (rowIn s) (λ i. blockAt y i .base) k row) → n ≡ bitAnd base j
+pub shared-row : {y z e s : List ℕ} → Laid y z e s → {k : ℕ} → k ≡ blockCount y → (base row : ℕ) {j n : ℕ} → Exactly j (Matched (rowIn s) (λ i. blockAt y i .base) k row) → n ≡ bitAnd base j
     → Exactly n (SharedAt (slotAt (shapeOf y)) base row)
 shared-row {y} l d base row x e = shared-in (slot-rows-at y d (l .lay)) base row x e
 

@@ -6,12 +6,12 @@ use Prim.Native.Nat.{ℕ, _+_, _/_, _≤_, _<_}
 use native.Mathlib.Omega.{arith}
 use lib.Bits.{bitAnd, bitOr}
 use Rattle.bases.specs.Base.{Holds, Empty, Meets}
-use Rattle.bases.proofs.Plain.{eq-or-ne}
+use Rattle.plain.proofs.Plain.{eq-or-ne}
 use Rattle.sets.specs.Set.{setOf, Exactly}
 use Rattle.sets.proofs.Exact.{exactly-as, exactly-at, both-exactly, either-exactly, down-exactly, held-or-not}
 use Rattle.shapes.specs.Shape.{Block}
 use Rattle.shapes.specs.Lent.{shapeOf}
-use Rattle.rests.specs.Walk.{Path, slotAt}
+use Rattle.walks.specs.Walk.{Path, slotAt}
 use Rattle.rows.specs.Row.{rowIn}
 use Rattle.common_weighs.specs.declared.Weighed.{Weighed}
 use Rattle.common_weighs.specs.Next.{Goes, MayCome, LeastOf, some, none}
@@ -150,7 +150,8 @@ weighed {X} {Y} {U} {W} {P} {Q} {base} {E} g r w i at {left′} less b (WeighedB
 
 -- ---- one after the other
 
--- From `members` on those of `left` are left, for each X that has the base there, and whatever leads to P and Q: `beside` has those of Q whose base meets it.
+-- From `members` on those of `left` are left, for each X that has the base there, and whatever leads to P and Q:
+-- `beside` has those of Q whose base meets it.
 pub record WeighedTo (y rows : List ℕ) (base beside members : ℕ) (begun : Weighed) (left : ℕ) (g : Weighed) : Type 0 where
   pub inside : (i : ℕ) → Holds left i → Holds members i
   pub holds : (X : ℕ → Block) (U W P Q E : ℕ) → Exactly beside (λ j. Holds Q j × Meets base (slotAt (shapeOf y) j .base))

@@ -1,11 +1,11 @@
--- Document 02, order 2, one character at a time. P and Q are the positions of the two shapes to which the text so far leads; X and Y say what
--- the shapes allow at each position up to their ends U and W.
+-- Document 02, order 2, one character at a time. P and Q are the positions of the two shapes to which the text so far
+-- leads; X and Y say what the shapes allow at each position up to their ends U and W.
 use mathlib.Core.Path.{_≡_}
 use mathlib.Core.List.{List, []}
 use Prim.Native.Nat.{ℕ, _+_, _≤_, _<_}
 use Rattle.bases.specs.Base.{Holds}
 use Rattle.shapes.specs.Shape.{Block, blockCount}
-use Rattle.rests.specs.Walk.{Walk, Path}
+use Rattle.walks.specs.Walk.{Walk, Path}
 use Rattle.rows.specs.Row.{rowIn}
 use Rattle.rows.specs.Steps.{Together}
 use Rattle.row_paths.specs.Laid.{Laid}
@@ -30,12 +30,12 @@ pub data LeastOf (A : ℕ → Type 0) (code : ℕ) : Type 0 where
   none : code ≡ 256 → ((c : ℕ) → A c → ⊥) → LeastOf A code
 
 -- Of P nothing is dropped at which both could take a character.
-pub record Kept (X Y : ℕ → Block) (U W P Q kept : ℕ) : Type 0 where
+pub record NoneDropped (X Y : ℕ → Block) (U W P Q kept : ℕ) : Type 0 where
   pub so : (i : ℕ) → Holds kept i → Holds P i
   pub live : (i j c : ℕ) → Holds P i → Holds Q j → Goes X Y U W i j c → Holds kept i
 
 -- From a position of s the ends of runs lead to q.
-pub record Ended (X : ℕ → Block) (s q : ℕ) : Type 0 where
+pub record RunsEnded (X : ℕ → Block) (s q : ℕ) : Type 0 where
   pub from : ℕ
   pub held : Holds s from
   pub walk : Walk X q from []
@@ -48,7 +48,7 @@ pub record After (X : ℕ → Block) (P c q : ℕ) : Type 0 where
   pub ends : Walk X q (from + 1) []
 
 -- Where a run of the shape x may end, and where it then is: all zones and all ends of its rows.
-pub record Ending (x : List ℕ) (free stops : ℕ) : Type 0 where
+pub record RunEnds (x : List ℕ) (free stops : ℕ) : Type 0 where
   pub zones : List ℕ
   pub ends : List ℕ
   pub slots : List ℕ

@@ -7,7 +7,7 @@ ghost use Rattle.bases.specs.Base.{Holds};
 ghost use Rattle.sets.specs.Set.{setOf};
 ghost use Rattle.shapes.specs.Lent.{shapeOf};
 ghost use Rattle.rows.specs.Row.{tableSize};
-ghost use Rattle.rests.specs.Walk.{slotAt};
+ghost use Rattle.walks.specs.Walk.{slotAt};
 ghost use Rattle.common_weighs.specs.Next.{Slotted};
 ghost use Rattle.common_weighs.specs.Code.{Sooner, WeighedBy, WeighedAll};
 
@@ -91,7 +91,8 @@ pub fn settled(g: Weighed) -> Chosen
     }
 }
 
-// Positions with one base, weighed until none is left, or none can bring a character that comes sooner, since the base has none below `least` at hand.
+// Positions with one base, weighed until none is left, or none can bring a character that comes sooner, since the base
+// has none below `least` at hand.
 pub fn weigh_all(
     y: &[u64],
     slots: &[u64],

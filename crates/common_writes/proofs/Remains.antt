@@ -1,4 +1,5 @@
--- The earliest text from where both stand: none of it if both may end, else the least character that may come, then the earliest text of what remains. Assumes nothing.
+-- The earliest text from where both stand: none of it if both may end, else the least character that may come, then the
+-- earliest text of what remains. Assumes nothing.
 use mathlib.Core.Path.{_≡_, refl, sym, ap, subst}
 use mathlib.Core.Bool.{true}
 use mathlib.Core.List.{List, [], _∷_}
@@ -10,16 +11,16 @@ use borrow.Rule.Slice.PartMut.{putMid}
 use lib.Dec.{eqb}
 use lib.ListN.{length, set, drop, length-append}
 use Rattle.bases.specs.Base.{Holds}
-use Rattle.bases.proofs.Plain.{lt-or-le}
+use Rattle.plain.proofs.Plain.{lt-or-le}
 use Rattle.sets.specs.Set.{setOf, Exactly}
 use Rattle.shapes.specs.Shape.{Block, total}
 use Rattle.shapes.specs.Lent.{shapeOf}
 use Rattle.texts.specs.Order.{AtMost, ends, less, same}
-use Rattle.rests.specs.Walk.{Walk, here, skip, step, slotAt}
-use Rattle.rests.proofs.Walks.{walk-append, forwards, take-one, path-of, text-of}
+use Rattle.walks.specs.Walk.{Walk, here, skip, step, slotAt}
+use Rattle.walks.proofs.Walks.{walk-append, forwards, take-one, path-of, text-of}
 use Rattle.row_paths.proofs.Shapes.{held-within}
 use Rattle.common_next.specs.declared.Front.{Front}
-use Rattle.common_weighs.specs.Next.{MayCome, LeastOf, some, none, Kept, After, Ending}
+use Rattle.common_weighs.specs.Next.{MayCome, LeastOf, some, none, NoneDropped, After, RunEnds}
 use Rattle.common_weighs.specs.Code.{ChosenBy}
 use Rattle.common_writes.specs.Code.{Finishes, EarliestFrom, WithEnds, Meeting, Stands, AtMostLeft, EarliestWritten}
 use Rattle.common_writes.proofs.Part.{rest, laid-text}
@@ -75,7 +76,7 @@ module _ {X Y : ℕ → Block} {U W : ℕ} (P Q : ℕ) (cp : WithEnds X P) (cq :
         go [] f g = absurd (not-end (may-finish cp f, may-finish cq g))
         go (c ∷ t) f g = (c, begins f g)
 
-    pub earliest-next : {P′ Q′ kept c : ℕ} {t : List ℕ} → LeastOf (MayCome X Y U W (Holds P) Q) c → Kept X Y U W P Q kept → Exactly P′ (After X kept c) → Exactly Q′ (After Y Q c)
+    pub earliest-next : {P′ Q′ kept c : ℕ} {t : List ℕ} → LeastOf (MayCome X Y U W (Holds P) Q) c → NoneDropped X Y U W P Q kept → Exactly P′ (After X kept c) → Exactly Q′ (After Y Q c)
         → EarliestFrom X Y U W P′ Q′ t → EarliestFrom X Y U W P Q (c ∷ t)
     earliest-next {P′} {Q′} {kept} {c} {t} l k x y e = record {
       first = wider (k .so) (put-before x (e .first));
@@ -109,7 +110,7 @@ is-code : {A : ℕ → Type 0} {code : ℕ} (c : ℕ) → LeastOf A code → A c
 is-code c (some l a f) m = (l, a)
 is-code c (none e n) m = absurd (n c m)
 
-pub meeting-after : {X Y : ℕ → Block} {U W P Q P′ Q′ kept c : ℕ} → MayCome X Y U W (Holds P) Q c → Kept X Y U W P Q kept → Exactly P′ (After X kept c) → Exactly Q′ (After Y Q c) → Meeting X Y U W P′ Q′
+pub meeting-after : {X Y : ℕ → Block} {U W P Q P′ Q′ kept c : ℕ} → MayCome X Y U W (Holds P) Q c → NoneDropped X Y U W P Q kept → Exactly P′ (After X kept c) → Exactly Q′ (After Y Q c) → Meeting X Y U W P′ Q′
 meeting-after {P = P} {Q} {kept = kept} {c} m k x y = record {
   own = m .own + 1;
   other = m .other + 1;
@@ -120,7 +121,7 @@ meeting-after {P = P} {Q} {kept = kept} {c} m k x y = record {
 
 -- where a shape stands after it
 pub stands-after : {x : List ℕ} {c : ℕ} {s : Front} (K : ℕ)
-    → Exactly (setOf (s .takes)) (λ q. Holds (slotAt (shapeOf x) q .base) c) → Exactly (setOf (s .row)) (After (slotAt (shapeOf x)) K c) → Ending x (setOf (s .free)) (setOf (s .stops)) → Stands x c s
+    → Exactly (setOf (s .takes)) (λ q. Holds (slotAt (shapeOf x) q .base) c) → Exactly (setOf (s .row)) (After (slotAt (shapeOf x)) K c) → RunEnds x (setOf (s .free)) (setOf (s .stops)) → Stands x c s
 stands-after K t r f = record { closed = closed-after K r; takes = t; runs = f }
 
 -- one character less may still come

@@ -8,10 +8,10 @@ use Rattle.sets.specs.Set.{setOf, Exactly}
 use Rattle.shapes.specs.Shape.{Block, total}
 use Rattle.shapes.specs.Lent.{shapeOf}
 use Rattle.texts.specs.Order.{AtMost}
-use Rattle.rests.specs.Walk.{Walk, Path, slotAt}
+use Rattle.walks.specs.Walk.{Walk, Path, slotAt}
 use Rattle.common_back.specs.Back.{EndRows}
 use Rattle.common_next.specs.declared.Front.{Front}
-use Rattle.common_weighs.specs.Next.{Slotted, Ending}
+use Rattle.common_weighs.specs.Next.{Slotted, RunEnds}
 
 -- From one of the positions P the text t is read to the end U.
 pub record Finishes (X : ℕ → Block) (U P : ℕ) (t : List ℕ) : Type 0 where
@@ -43,17 +43,19 @@ pub record BothLaid (x y slots-x slots-y mines rows : List ℕ) : Type 0 where
   pub other : Slotted y slots-y
   pub table : EndRows x y mines rows
 
--- Where one shape stands: at positions closed under the ends of runs; `takes` are those that can take the character code, `free` those where a run may end, `stops` where it then is.
+-- Where one shape stands: at positions closed under the ends of runs; `takes` are those that can take the character
+-- code, `free` those where a run may end, `stops` where it then is.
 pub record Stands (x : List ℕ) (code : ℕ) (s : Front) : Type 0 where
   pub closed : WithEnds (slotAt (shapeOf x)) (setOf (s .row))
   pub takes : Exactly (setOf (s .takes)) (λ q. Holds (slotAt (shapeOf x) q .base) code)
-  pub runs : Ending x (setOf (s .free)) (setOf (s .stops))
+  pub runs : RunEnds x (setOf (s .free)) (setOf (s .stops))
 
--- Before the first character: at the positions that the ends of runs lead to from the start, and the character 0 stands for the one before.
+-- Before the first character: at the positions that the ends of runs lead to from the start, and the character 0 stands
+-- for the one before.
 pub record Started (x : List ℕ) (s : Front) : Type 0 where
   pub row : Exactly (setOf (s .row)) (λ q. Walk (slotAt (shapeOf x)) q 0 [])
   pub takes : Exactly (setOf (s .takes)) (λ q. Holds (slotAt (shapeOf x) q .base) 0)
-  pub runs : Ending x (setOf (s .free)) (setOf (s .stops))
+  pub runs : RunEnds x (setOf (s .free)) (setOf (s .stops))
 
 -- At most so many characters are left.
 pub record AtMostLeft (x : List ℕ) (P left : ℕ) : Type 0 where

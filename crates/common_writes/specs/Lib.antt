@@ -1,2 +1,3 @@
--- The earliest text that both shapes can end with, from where they stand, by recursion: its first character, then what remains.
+-- The earliest text that both shapes can end with, from where they stand, by recursion: its first character, then what
+-- remains.
 pub mod Code

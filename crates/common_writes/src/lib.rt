@@ -1,15 +1,16 @@
-// The earliest text that both shapes can end with, from where they stand, by recursion: its first character, then what remains.
+// The earliest text that both shapes can end with, from where they stand, by recursion: its first character, then what
+// remains.
 use common_next::Front;
 use sets::Set;
 ghost use mathlib.Core.Path.{_≡_};
 ghost use Prim.Native.Nat.{_≤_, _<_};
 ghost use lib.ListN.{length};
 ghost use Rattle.bases.specs.Base.{Holds};
-ghost use Rattle.bases.specs.Tells.{Tells};
+ghost use Rattle.plain.specs.Tells.{Tells};
 ghost use Rattle.sets.specs.Set.{setOf};
 ghost use Rattle.shapes.specs.Shape.{total};
 ghost use Rattle.shapes.specs.Lent.{shapeOf};
-ghost use Rattle.rests.specs.Walk.{slotAt};
+ghost use Rattle.walks.specs.Walk.{slotAt};
 ghost use Rattle.common_writes.specs.Code.{BothLaid, Stands, AtMostLeft, Meeting, EarliestWritten};
 
 // The positions past all blocks of both shapes.
@@ -29,7 +30,8 @@ fn may_end(own: Set, other: Set, last: Totals) -> bool
     false
 }
 
-// The earliest text from where both stand, of at most `left` characters, and its length; `code` is the character before it.
+// The earliest text from where both stand, of at most `left` characters, and its length; `code` is the character before
+// it.
 pub fn write(
     x: &[u64],
     y: &[u64],

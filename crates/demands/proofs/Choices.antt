@@ -1,11 +1,12 @@
--- A choice of texts is a choice of runs, and back: so no choice of texts that satisfies the whole book is lost. Assumes nothing.
+-- A choice of texts is a choice of runs, and back: so no choice of
+-- texts that satisfies the whole book is lost. Assumes nothing.
 use mathlib.Core.Path.{_≡_, refl, sym, ap, ap₂, _∙_, subst, subst₂}
 use mathlib.Core.List.{List, [], _∷_, _++_}
 use Prim.Native.Nat.{ℕ, zero, suc, _+_, _-_, _≤_, _<_}
 use native.Mathlib.Omega.{arith}
 use lib.ListN.{length, getD, take, drop, length-drop, take-append-drop}
 use lib.Seq.{take-at, drop-drop, drop-append-add, length-take-le}
-use Rattle.shapes.specs.All.{All}
+use Rattle.plain.specs.All.{All}
 use Rattle.shapes.specs.Shape.{Block, Filling, done, textOf, Fits}
 use Rattle.shapes.specs.Lent.{Numbers, shapeOf}
 use Rattle.hulls.specs.Hull.{none as in-none, shapes}
@@ -20,6 +21,7 @@ use Rattle.books.proofs.Sums.{text-within}
 use Rattle.book_steps.specs.Step.{Standing}
 use Rattle.book_steps.proofs.Looks.{named-third}
 use Rattle.book_steps.proofs.Standing.{blocks-size, text-shape}
+use Rattle.demands.specs.Call.{CountsAndRules}
 use Rattle.demands.specs.Calls.{Ending, none, numbers, Calls, Choice}
 use Rattle.demands.proofs.Sequences.{RightRules, outcomeOf, calls-run, calls-end, Ended}
 
@@ -50,26 +52,27 @@ assemble (c ∷ cs) S text e h =
       texts (one .runs) (others .0) size (one .joined) (others .2),
     )
   where
-    texts : (f g : List (List ℕ)) → length f ≡ c → textOf f ≡ text 0 → ((i : ℕ) → i < length cs → textOf (take (getD cs i 0) (drop (sumOf (take i cs)) g)) ≡ text (suc i))
+    texts : (f g : List (List ℕ)) → length f ≡ c → textOf f ≡ text 0
+        → ((i : ℕ) → i < length cs → textOf (take (getD cs i 0) (drop (sumOf (take i cs)) g)) ≡ text (suc i))
         → (i : ℕ) → i < suc (length cs) → textOf (take (getD (c ∷ cs) i 0) (drop (sumOf (take i (c ∷ cs))) (f ++ g))) ≡ text i
     texts f g size p q zero l = ap textOf (take-at f g c size) ∙ p
     texts f g size p q (suc i) l =
         ap (λ (r : List (List ℕ)). textOf (take (getD cs i 0) r)) (ap (λ (k : ℕ). drop (k + sumOf (take i cs)) (f ++ g)) (sym size) ∙ drop-append-add f g (sumOf (take i cs)))
         ∙ q i (omega arith)
 
-module _ {counts rules : List ℕ} (right : RightRules counts rules) {xs : List ℕ} (d : Standing counts xs) {text : ℕ → List ℕ} where
+module _ {g : CountsAndRules} (right : RightRules g) {xs : List ℕ} (d : Standing (g .counts) xs) {text : ℕ → List ℕ} where
   -- a choice of texts as one of runs
-  runs-of : Choice counts rules xs text
-      → (f : List (List ℕ)) × Filling (shapeOf xs) f × ((k : ℕ) → Names counts k → textOf (take (countOf counts k) (drop (firstOf counts k) f)) ≡ text k)
+  runs-of : Choice g xs text
+      → (f : List (List ℕ)) × Filling (shapeOf xs) f × ((k : ℕ) → Names (g .counts) k → textOf (take (countOf (g .counts) k) (drop (firstOf (g .counts) k) f)) ≡ text k)
   runs-of c =
-      let all = assemble counts (shapeOf xs) (λ i. text (suc i)) (blocks-size d)
+      let all = assemble (g .counts) (shapeOf xs) (λ i. text (suc i)) (blocks-size d)
       (λ i l. let back : suc i - 1 ≡ i = omega arith in
-      subst (λ (j : ℕ). Fits (take (getD counts j 0) (drop (sumOf (take j counts)) (shapeOf xs))) (text (suc i))) back
+      subst (λ (j : ℕ). Fits (take (getD (g .counts) j 0) (drop (sumOf (take j (g .counts))) (shapeOf xs))) (text (suc i))) back
       (subst (λ (B : List Block). Fits B (text (suc i))) (text-shape d (suc i)) (c .fits (suc i) (record { from-one = omega arith; within = omega arith })))) in
       (all .0, all .1, λ k n. named k (all .0) (all .2) n)
     where
-      named : (k : ℕ) (f : List (List ℕ)) → ((i : ℕ) → i < length counts → textOf (take (getD counts i 0) (drop (sumOf (take i counts)) f)) ≡ text (suc i))
-          → Names counts k → textOf (take (countOf counts k) (drop (firstOf counts k) f)) ≡ text k
+      named : (k : ℕ) (f : List (List ℕ)) → ((i : ℕ) → i < length (g .counts) → textOf (take (getD (g .counts) i 0) (drop (sumOf (take i (g .counts))) f)) ≡ text (suc i))
+          → Names (g .counts) k → textOf (take (countOf (g .counts) k) (drop (firstOf (g .counts) k) f)) ≡ text k
       named k f h n =
           let one = n .from-one in
           let last = n .within in
@@ -77,37 +80,38 @@ module _ {counts rules : List ℕ} (right : RightRules counts rules) {xs : List 
           h (k - 1) (omega arith) ∙ ap text back
 
   -- what it keeps as texts it keeps as runs
-  keeps-of : (c : Choice counts rules xs text) (j : ℕ) → j < ruleCount rules → ruleOf counts rules j (runs-of c .0)
-  keeps-of c j l = go (ruleAt rules j) (right .each j l) (c .keeps j l)
+  keeps-of : (c : Choice g xs text) (j : ℕ) → j < ruleCount (g .rules) → ruleOf (g .counts) (g .rules) j (runs-of c .0)
+  keeps-of c j l = go (ruleAt (g .rules) j) (right .each j l) (c .keeps j l)
     where
-      same : (k : ℕ) → Names counts k → text k ≡ textIn counts (runs-of c .0) k
+      same : (k : ℕ) → Names (g .counts) k → text k ≡ textIn (g .counts) (runs-of c .0) k
       same k n = sym (runs-of c .2 k n)
 
-      go : (t : Rule) → RightRule counts t → Keeps t text → Keeps t (textIn counts (runs-of c .0))
+      go : (t : Rule) → RightRule (g .counts) t → Keeps t text → Keeps t (textIn (g .counts) (runs-of c .0))
       go t r (relates q) = relates (subst₂ (relationOf (t .kind)) (same (t .a) (r .first)) (same (t .b) (r .second)) q)
-      go t r (Keeps.joins e q) = Keeps.joins e (sym (same (t .a) (r .first)) ∙ q ∙ ap₂ _++_ (same (t .b) (r .second)) (same (t .c) (named-third counts t r e)))
+      go t r (Keeps.joins e q) = Keeps.joins e (sym (same (t .a) (r .first)) ∙ q ∙ ap₂ _++_ (same (t .b) (r .second)) (same (t .c) (named-third (g .counts) t r e)))
 
   -- and where the runs fill other numbers, the texts fit them
-  choice-again : (c : Choice counts rules xs text) {zs : List ℕ} → Standing counts zs → Filling (shapeOf zs) (runs-of c .0) → Choice counts rules zs text
+  choice-again : (c : Choice g xs text) {zs : List ℕ} → Standing (g .counts) zs → Filling (shapeOf zs) (runs-of c .0) → Choice g zs text
   choice-again c {zs} s x = record {
     fits = λ k n. record {
-      runs = take (countOf counts k) (drop (firstOf counts k) (runs-of c .0));
+      runs = take (countOf (g .counts) k) (drop (firstOf (g .counts) k) (runs-of c .0));
       filling =
-          let w = text-within counts k (n .from-one) in
+          let w = text-within (g .counts) k (n .from-one) in
           let e = blocks-size s in
-          subst (λ (B : List Block). Filling B (take (countOf counts k) (drop (firstOf counts k) (runs-of c .0)))) (sym (text-shape s k))
-          (part-filling (firstOf counts k) (countOf counts k) (omega arith) x);
+          subst (λ (B : List Block). Filling B (take (countOf (g .counts) k) (drop (firstOf (g .counts) k) (runs-of c .0)))) (sym (text-shape s k))
+          (part-filling (firstOf (g .counts) k) (countOf (g .counts) k) (omega arith) x);
       joined = runs-of c .2 k n;
     };
     keeps = c .keeps;
   }
 
-  pub choice-kept : All RightCount counts → Numbers xs → {js : List ℕ} {e : Ending} → Calls counts rules xs js e → Choice counts rules xs text
-      → (zs : List ℕ) × (e ≡ numbers zs) × Choice counts rules zs text
+  pub choice-kept : All RightCount (g .counts) → Numbers xs → {js : List ℕ} {e : Ending} → Calls g xs js e → Choice g xs text
+      → (zs : List ℕ) × (e ≡ numbers zs) × Choice g zs text
   unfolding Ended outcomeOf
   choice-kept each w {e = e} r c = go e (calls-end each right d w r) (none-lost (runs-of c .1) (keeps-of c) (calls-run each right d r))
     where
-      go : (e : Ending) → Ended counts rules e → (H : List Block) × (outcomeOf e ≡ shapes H) × Filling H (runs-of c .0) → (zs : List ℕ) × (e ≡ numbers zs) × Choice counts rules zs text
+      go : (e : Ending) → Ended g e → (H : List Block) × (outcomeOf e ≡ shapes H) × Filling H (runs-of c .0)
+          → (zs : List ℕ) × (e ≡ numbers zs) × Choice g zs text
       go none p h = absurd (let q : in-none ≡ shapes (h .0) = h .1 in let z : _≡_ {A = ℕ} 0 1 = cc in omega arith)
       go (numbers zs) p h =
           let q : shapes (shapeOf zs) ≡ shapes (h .0) = h .1 in

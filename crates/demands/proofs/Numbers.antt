@@ -5,14 +5,10 @@ use mathlib.Core.Logic.{_⊎_, inl, inr}
 use Prim.Native.Nat.{ℕ, _<_}
 use native.Mathlib.Omega.{arith}
 use Rattle.answers.specs.Told.{Told, tell}
-use Rattle.shapes.specs.Shape.{Block}
-use Rattle.shapes.specs.Wrong.{BlockRefused}
-use Rattle.shapes.specs.Wrong.BlockRefused.{crossed, too-large, disagree}
+use Rattle.answers.specs.Turns.{here, later}
 use Rattle.shapes.specs.Lent.{ShapeRefused}
-use Rattle.shapes.specs.Lent.BlocksRefused.{wrong-block, too-long}
-use Rattle.shapes.specs.Lent.ShapeRefused.{wrong-length, wrong-blocks}
+use Rattle.shapes.proofs.Refused.{shape-tells}
 use Rattle.pairs.specs.Pair.{PairRefused}
-use Rattle.pairs.specs.Pair.PairRefused.{first, second}
 
 -- a number between 3 and 10, or above 11
 abbrev pub Other : ℕ → Type 0
@@ -26,16 +22,11 @@ apart (a, b) (inl h) e = omega (arith, a, h, e)
 apart (a, inl l) (inr h) e = let x = h .0 in omega (arith, l, x, e)
 apart (a, inr g) (inr h) e = let x = h .1 in omega (arith, g, x, e)
 
-block-other : {n i m : ℕ} {b : Block} {t : Told} → Other m → BlockRefused n i b t → t .number ≡ m → ⊥
-block-other o (crossed h e) n = apart o (inl (omega arith)) (numbered e n)
-block-other o (too-large c h e) n = apart o (inr (omega arith, omega arith)) (numbered e n)
-block-other o (disagree c l h e) n = apart o (inr (omega arith, omega arith)) (numbered e n)
-
 pub shape-other : {n m : ℕ} {xs : List ℕ} {t : Told} → Other m → ShapeRefused n xs t → t .number ≡ m → ⊥
-shape-other o (wrong-length l e) n = apart o (inl (omega arith)) (numbered e n)
-shape-other o (wrong-blocks r (wrong-block k f)) n = block-other o (f .refused) n
-shape-other o (wrong-blocks r (too-long g h e)) n = apart o (inl (omega arith)) (numbered e n)
+shape-other {m = m} o d =
+    shape-tells (λ (t : Told). t .number ≡ m → ⊥) (apart o (inl (omega arith)))
+    (λ i. (apart o (inl (omega arith)), apart o (inr (omega arith, omega arith)), apart o (inr (omega arith, omega arith)))) (apart o (inl (omega arith))) d
 
 pub pair-other : {m : ℕ} {xs ys : List ℕ} {t : Told} → Other m → PairRefused xs ys t → t .number ≡ m → ⊥
-pair-other o (first d) n = shape-other o d n
-pair-other o (second a d) n = shape-other o d n
+pair-other o (here d) n = shape-other o d n
+pair-other o (later a (here d)) n = shape-other o d n

@@ -1,13 +1,12 @@
--- What is acceptable is not refused, and what is not is, duly; a call's promise says what it leaves after a refusal. Assumes nothing.
-use mathlib.Core.Path.{_≡_, refl, sym, ap, _∙_}
+-- Demand 1 of each call: what is acceptable is not refused, and what is not is,
+-- duly; a refusal leaves the memory; one input has one outcome. Assumes nothing.
+use mathlib.Core.Path.{_≡_, refl, ap, _∙_, subst}
 use mathlib.Core.List.{List}
-use mathlib.Core.Logic.{inl, inr}
-use Prim.Native.Nat.{ℕ, _*_, _≤_}
-use native.Mathlib.Omega.{arith}
-use lib.ListN.{length}
-use Rattle.answers.specs.Told.{Told, told}
+use mathlib.Core.Logic.{_⊎_, inl, inr}
+use Prim.Native.Nat.{ℕ}
+use lib.IntN.{ℤ}
+use Rattle.answers.specs.Told.{told}
 use Rattle.answers.specs.declared.Refusal.{Refusal}
-use Rattle.answers.specs.declared.AnswerRecord.{AnswerRecord}
 use Rattle.answers.specs.declared.Checked.{Checked}
 use Rattle.answers.specs.declared.Fit.{Fit}
 use Rattle.answers.specs.declared.Narrowed.{Narrowed}
@@ -17,202 +16,250 @@ use Rattle.answers.specs.declared.Sought.{Sought}
 use Rattle.answers.specs.declared.Swept.{Swept}
 use Rattle.answers.specs.declared.Tray.{Tray}
 use Rattle.answers.specs.declared.Written.{Written}
-use Rattle.shapes.specs.Lent.{shapeOf, Accepted, ShapeRefused}
-use Rattle.shapes.proofs.Refused.{shape-one, shape-not}
+use Rattle.answers.proofs.Turns.{OneOf}
+use Rattle.shapes.proofs.Refused.{of-shape}
 use Rattle.extreme_steps.specs.declared.Direction.{Direction}
 use Rattle.extremes.specs.Extreme.{ExtremePromise}
-use Rattle.pairs.specs.Pair.{PairAccepted, Room, NarrowRefused}
+use Rattle.extremes.proofs.Refused.{text-one, text-not}
 use Rattle.pairs.specs.Narrow.{NarrowPromise}
 use Rattle.pairs.proofs.Pair.{narrow-one, narrow-not}
-use Rattle.pairs.proofs.Determined.{Outcome, narrow-determined}
-use Rattle.joins.specs.Refused.{JoinAccepted, JoinRoom, JoinRefused}
+use Rattle.pairs.proofs.Determined.{narrow-determined}
 use Rattle.joins.proofs.Refused.{join-refused-one, join-refused-not}
-use Rattle.common_calls.specs.Common.{ShowRoom, ShowRefused}
-use Rattle.common_calls.proofs.Common.{show-refused-one, show-refused-not}
-use Rattle.sweep_calls.specs.Sweep.{SweepRefused}
-use Rattle.sweep_calls.proofs.Sweeping.{one-refusal, not-due}
-use Rattle.tray_pairs.specs.Judged.{RecordRefused, RecordAccepted, Judged}
+use Rattle.joins.proofs.Determined.{join-determined}
+use Rattle.common_calls.proofs.Common.{show-refused-one, show-refused-not, common-one}
+use Rattle.sweep_calls.proofs.Sweeping.{one-refusal, not-due, sweep-determined}
 use Rattle.tray_pairs.specs.Judged.Judged.{swept, refused}
-use Rattle.tray_pairs.specs.declared.Pair.{Pair as TrayPair}
-use Rattle.tray_pairs.proofs.Judged.{record-refused, record-refused-one, record-refused-not}
-use Rattle.trays.specs.Tray.{TrayRefused, TrayAccepted}
-use Rattle.trays.proofs.Determined.{tray-refused-one, tray-refused-not}
-use Rattle.find_calls.specs.Find.{FindRefused}
-use Rattle.find_calls.proofs.Determined.{find-refused-one, find-refused-not}
-use Rattle.books.specs.Refused.{BookAccepted, BookRefused}
+use Rattle.tray_pairs.proofs.Judged.{record-refused, record-refused-one, record-refused-not, judged-one}
+use Rattle.trays.proofs.Determined.{tray-refused-one, tray-refused-not, tray-determined}
+use Rattle.find_calls.proofs.Determined.{find-refused-one, find-refused-not, find-determined}
 use Rattle.books.proofs.Refused.{book-one, book-not}
-use Rattle.file_runs.specs.Promise.{RunRefused, FileAnswer}
-use Rattle.file_runs.proofs.Determined.{run-refused-one, run-file-not}
+use Rattle.book_runs.proofs.Determined.{run-determined}
+use Rattle.file_runs.specs.Promise.{runTurns, FileAnswer}
+use Rattle.answers.specs.Turns.{inTurn}
+use Rattle.file_runs.proofs.Determined.{run-refused-one, run-file-not, run-file-determined}
 use Rattle.host_calls.specs.Host.{negated, handed}
 use Rattle.host_calls.proofs.Numbers.{host-refused}
-use Rattle.dashed.specs.Promises.{CheckShape, FitsShape, Sweep, SweepTray, NarrowJoin, CommonText, FindMark, RunBook, RunFile, RunHost}
-use Rattle.demands.specs.Demands.{Refuses, refusedRecord, TextRefused, FileAcceptable, NarrowingRefuses}
+use Rattle.host_calls.proofs.Determined.{host-determined}
+use Rattle.dashed.proofs.Determined.{check-shape-determined, fits-determined, extreme-determined}
+use lib.ListN.{length}
+use Rattle.demands.specs.Call.{Call, checkShape, fitsShape, extremeText, findMark, sweep, narrowing, narrowJoin, commonText, sweepTray, judgePair, runBook, FileAcceptable, runFile, HostMemory, runHost}
+use Rattle.demands.specs.Demands.{Demand1Of}
 
-pub check-shape-refuses : (xs : List ℕ) → Refuses Checked.Refused (CheckShape xs) (Accepted xs) (ShapeRefused 1 xs)
-check-shape-refuses xs = record { acceptable = λ a q p. shape-not p a; malformed = malformed; one = λ t u p q. shape-one p q }
-  where
-    malformed : (Accepted xs → ⊥) → (r : Checked) → CheckShape xs r → (q : Refusal) × (r ≡ Checked.Refused q) × ShapeRefused 1 xs (told q)
-    malformed n Checked.Sound p = absurd (n p)
-    malformed n (Checked.Refused q) p = (q, refl, p)
+-- one refusal for one input, and none where it is acceptable
+abbrev OneRefusal : Call → Type 0
+OneRefusal c = (g : c .Given) (m : c .Memory) → OneOf (c .checked g m)
 
-pub fits-refuses : (xs t : List ℕ) → Refuses Fit.Refused (FitsShape xs t) (Accepted xs) (ShapeRefused 1 xs)
-fits-refuses xs t = record { acceptable = λ a q p. shape-not p a; malformed = malformed; one = λ t u p q. shape-one p q }
-  where
-    malformed : (Accepted xs → ⊥) → (r : Fit) → FitsShape xs t r → (q : Refusal) × (r ≡ Fit.Refused q) × ShapeRefused 1 xs (told q)
-    malformed n Fit.Fits p = absurd (n (p .0))
-    malformed n Fit.Unfit p = absurd (n (p .0))
-    malformed n (Fit.Refused q) p = (q, refl, p)
+-- the refusal is the one that is due
+abbrev Duly : Call → Type 0
+Duly c = (g : c .Given) (m m′ : c .Memory) (q : Refusal) → c .Promise g m m′ (c .refused q) → c .checked g m .due (told q)
 
--- ---- a mark sought in a shape
+-- what is answered is a refusal, or all is acceptable
+abbrev Answered : Call → Type 0
+Answered c = (g : c .Given) (m m′ : c .Memory) (r : c .Answer) → c .Promise g m m′ r → c .checked g m .good ⊎ ((q : Refusal) × (r ≡ c .refused q))
 
-pub find-refuses : (xs mark : List ℕ) → Refuses Sought.Refused (FindMark xs mark) (Accepted xs × (length mark ≤ 64)) (FindRefused xs mark)
-find-refuses xs mark = record {
-  acceptable = λ a q p. find-refused-not xs mark p (record { accepted = a .0; few = a .1 });
-  malformed = malformed;
-  one = λ t u p q. find-refused-one xs mark p q;
-}
-  where
-    malformed : (Accepted xs × (length mark ≤ 64) → ⊥) → (r : Sought) → FindMark xs mark r → (q : Refusal) × (r ≡ Sought.Refused q) × FindRefused xs mark (told q)
-    malformed n Sought.Nowhere p = absurd (n (p .0 .accepted, p .0 .few))
-    malformed n (Sought.InSome i j) p = absurd (n (p .0 .accepted, p .0 .few))
-    malformed n (Sought.InAll i j) p = absurd (n (p .0 .accepted, p .0 .few))
-    malformed n (Sought.Refused q) p = (q, refl, p)
+abbrev Untouched : Call → Type 0
+Untouched c = (g : c .Given) (m m′ : c .Memory) (q : Refusal) → c .Promise g m m′ (c .refused q) → m′ ≡ m
 
--- ---- least and greatest text
+abbrev OneOutcome : Call → Type 0
+OneOutcome c = (g : c .Given) (m m′ m″ : c .Memory) (r s : c .Answer) → c .Promise g m m′ r → c .Promise g m m″ s → (r ≡ s) × (m′ ≡ m″)
 
-text-one : (xs out : List ℕ) (t u : Told) → TextRefused xs out t → TextRefused xs out u → t ≡ u
-text-one xs out t u (inl p) (inl q) = shape-one p q
-text-one xs out t u (inl p) (inr q) = absurd (shape-not p (q .0))
-text-one xs out t u (inr p) (inl q) = absurd (shape-not q (p .0))
-text-one xs out t u (inr p) (inr q) = p .2 ∙ sym (q .2)
+-- how a call refuses, and with it demand 1
+pub record Refuses (c : Call) : Type 0 where
+  pub one : OneRefusal c
+  pub due : Duly c
+  pub demand : Demand1Of c
 
-pub text-not : (xs out : List ℕ) (t : Told) → Accepted xs × (250 ≤ length out) → TextRefused xs out t → ⊥
-text-not xs out t a (inl p) = shape-not p (a .0)
-text-not xs out t a (inr p) = let h = a .1 in let g = p .1 in omega arith
-
-pub text-refuses : (d : Direction) (xs out out′ : List ℕ) → Refuses Written.Refused (ExtremePromise d xs out out′) (Accepted xs × (250 ≤ length out)) (TextRefused xs out)
-text-refuses d xs out out′ = record { acceptable = λ a q p. text-not xs out (told q) a (p .0); malformed = malformed; one = text-one xs out }
-  where
-    malformed : (Accepted xs × (250 ≤ length out) → ⊥) → (r : Written) → ExtremePromise d xs out out′ r → (q : Refusal) × (r ≡ Written.Refused q) × TextRefused xs out (told q)
-    malformed n (Written.Text m) p = absurd (n (p .accepted, p .room))
-    malformed n (Written.Refused q) p = (q, refl, p .0)
-
--- ---- the sweep, the earliest common text, narrowing, a join, a book
-
-pub sweep-refuses : (xs ys out out′ : List ℕ)
-    → Refuses Swept.Refused (Sweep xs ys out out′) (PairAccepted xs ys × (2 * length (shapeOf xs) ≤ length out)) (SweepRefused xs ys (length out))
-sweep-refuses xs ys out out′ = record {
-  acceptable = λ a q p. not-due xs ys out (p .0) (a .0) (a .1);
-  malformed = malformed;
-  one = λ t u p q. one-refusal xs ys out p q;
-}
-  where
-    malformed : (PairAccepted xs ys × (2 * length (shapeOf xs) ≤ length out) → ⊥) → (r : Swept) → Sweep xs ys out out′ r
-        → (q : Refusal) × (r ≡ Swept.Refused q) × SweepRefused xs ys (length out) (told q)
-    malformed n (Swept.Places k) p = absurd (n (p .accepted, p .room))
-    malformed n (Swept.Cannot k) p = absurd (n (p .accepted, p .room))
-    malformed n (Swept.Refused q) p = (q, refl, p .0)
-
--- a pair of a tray, in its own record, and the whole call
-pub tray-pair-refuses : (blocks : List ℕ) (p : TrayPair) → Refuses refusedRecord (Judged blocks p) (RecordAccepted blocks p) (RecordRefused blocks p)
-tray-pair-refuses blocks p = record { acceptable = acceptable; malformed = malformed; one = λ t u d e. record-refused-one blocks p d e }
-  where
-    acceptable : RecordAccepted blocks p → (q : Refusal) → Judged blocks p (refusedRecord q) → ⊥
-    acceptable a q d = record-refused-not blocks p (record-refused blocks p q d) a
-
-    malformed : (RecordAccepted blocks p → ⊥) → (r : AnswerRecord) → Judged blocks p r → (q : Refusal) × (r ≡ refusedRecord q) × RecordRefused blocks p (told q)
-    malformed n r (swept a e) = absurd (n a)
-    malformed n r (refused q d e) = (q, e, d)
-
-pub tray-refuses : (blocks pairs : List ℕ) (row row′ : List AnswerRecord)
-    → Refuses Tray.Refused (SweepTray blocks pairs row row′) (TrayAccepted (length pairs) (length row)) (TrayRefused (length pairs) (length row))
-tray-refuses blocks pairs row row′ = record { acceptable = λ a q p. tray-refused-not (p .0) a; malformed = malformed; one = λ t u p q. tray-refused-one p q }
-  where
-    malformed : (TrayAccepted (length pairs) (length row) → ⊥) → (r : Tray) → SweepTray blocks pairs row row′ r
-        → (q : Refusal) × (r ≡ Tray.Refused q) × TrayRefused (length pairs) (length row) (told q)
-    malformed n Tray.Judged p = absurd (n (p .0))
-    malformed n (Tray.Refused q) p = (q, refl, p .0)
-
-pub common-text-refuses : (xs ys work out work′ out′ : List ℕ)
-    → Refuses Shown.Refused (CommonText xs ys work out work′ out′) (PairAccepted xs ys × ShowRoom (length work) (length out)) (ShowRefused xs ys (length work) (length out))
-common-text-refuses xs ys work out work′ out′ = record {
-  acceptable = λ a q p. show-refused-not (p .0) (a .0) (a .1);
-  malformed = malformed;
-  one = λ t u p q. show-refused-one p q;
-}
-  where
-    malformed : (PairAccepted xs ys × ShowRoom (length work) (length out) → ⊥) → (r : Shown) → CommonText xs ys work out work′ out′ r
-        → (q : Refusal) × (r ≡ Shown.Refused q) × ShowRefused xs ys (length work) (length out) (told q)
-    malformed n (Shown.Text m) p = absurd (n (p .0 .shapes, p .0 .room))
-    malformed n Shown.None p = absurd (n (p .0 .shapes, p .0 .room))
-    malformed n (Shown.Refused q) p = (q, refl, p .0)
-
-pub narrowing-refuses : (R : List ℕ → List ℕ → Type 0) → NarrowingRefuses (NarrowPromise R)
-narrowing-refuses R = record {
-  refuses = λ xs ys work ox oy work′ ox′ oy′. record {
-    acceptable = λ a q p. narrow-not (p .0) (a .0) (a .1);
-    malformed = malformed xs ys work ox oy work′ ox′ oy′;
-    one = λ t u p q. narrow-one p q;
+refuses : (c : Call) → OneRefusal c → Duly c → Answered c → Untouched c → OneOutcome c → Refuses c
+refuses c one due answered untouched outcome = record {
+  one = one;
+  due = due;
+  demand = record {
+    acceptable = λ {g} {m} {m′} a q p. one g m .not (due g m m′ q p) a;
+    malformed = λ {g} {m} {m′} n r p. go g m m′ n r p (answered g m m′ r p);
+    one-refusal = λ g m t u p q. one g m .one p q;
+    untouched = λ {g} {m} {m′} q p. untouched g m m′ q p;
+    one-outcome = λ {g} {m} {m′} {m″} r s p q. outcome g m m′ m″ r s p q;
   };
-  untouched = λ xs ys work ox oy work′ ox′ oy′ q p. (p .1 .work-kept, p .1 .first-kept, p .1 .second-kept);
-  determined = λ xs ys work ox oy work′ ox′ oy′ work″ ox″ oy″ r s p q.
-      let same = narrow-determined R xs ys work ox oy
-      (record { work = work′; first = ox′; second = oy′; answer = r }) (record { work = work″; first = ox″; second = oy″; answer = s }) p q in
-      (ap (λ (o : Outcome). o .answer) same, ap (λ (o : Outcome). o .work) same, ap (λ (o : Outcome). o .first) same, ap (λ (o : Outcome). o .second) same);
 }
   where
-    malformed : (xs ys work ox oy work′ ox′ oy′ : List ℕ) → (PairAccepted xs ys × Room xs ys (length work) (length ox) (length oy) → ⊥) → (r : Narrowed)
-        → NarrowPromise R xs ys work ox oy work′ ox′ oy′ r
-        → (q : Refusal) × (r ≡ Narrowed.Refused q) × NarrowRefused xs ys (length work) (length ox) (length oy) (told q)
-    malformed xs ys work ox oy work′ ox′ oy′ n Narrowed.Narrow p = absurd (n (p .0 .shapes, p .0 .room))
-    malformed xs ys work ox oy work′ ox′ oy′ n Narrowed.None p = absurd (n (p .0 .shapes, p .0 .room))
-    malformed xs ys work ox oy work′ ox′ oy′ n (Narrowed.Refused q) p = (q, refl, p .0)
+    go : (g : c .Given) (m m′ : c .Memory) → (c .checked g m .good → ⊥) → (r : c .Answer) → c .Promise g m m′ r
+        → c .checked g m .good ⊎ ((q : Refusal) × (r ≡ c .refused q))
+        → (q : Refusal) × (r ≡ c .refused q) × c .checked g m .due (told q)
+    go g m m′ n r p (inl a) = absurd (n a)
+    go g m m′ n r p (inr (q, e)) = (q, e, due g m m′ q (subst (c .Promise g m m′) e p))
 
-pub join-refuses : (xs ys zs work ox oy oz work′ ox′ oy′ oz′ : List ℕ) → Refuses Narrowed.Refused (NarrowJoin xs ys zs work ox oy oz work′ ox′ oy′ oz′)
-    (JoinAccepted xs ys zs × JoinRoom xs ys zs (length work) (length ox) (length oy) (length oz)) (JoinRefused xs ys zs (length work) (length ox) (length oy) (length oz))
-join-refuses xs ys zs work ox oy oz work′ ox′ oy′ oz′ = record {
-  acceptable = λ a q p. join-refused-not (p .0) (a .0) (a .1);
-  malformed = malformed;
-  one = λ t u p q. join-refused-one p q;
+-- ---- a shape
+
+check-shape-answered : Answered checkShape
+check-shape-answered xs m m′ Checked.Sound p = inl p
+check-shape-answered xs m m′ (Checked.Refused q) p = inr (q, refl)
+
+pub check-shape : Refuses checkShape
+check-shape = refuses checkShape (λ xs m. of-shape) (λ xs m m′ q p. p) check-shape-answered (λ xs m m′ q p. refl)
+    (λ xs m m′ m″ r s p q. (check-shape-determined xs r s p q, refl))
+
+fits-answered : Answered fitsShape
+fits-answered g m m′ Fit.Fits p = inl (p .0)
+fits-answered g m m′ Fit.Unfit p = inl (p .0)
+fits-answered g m m′ (Fit.Refused q) p = inr (q, refl)
+
+pub fits : Refuses fitsShape
+fits = refuses fitsShape (λ g m. of-shape) (λ g m m′ q p. p) fits-answered (λ g m m′ q p. refl)
+    (λ g m m′ m″ r s p q. (fits-determined (g .shape) (g .text) r s p q, refl))
+
+find-answered : Answered findMark
+find-answered g m m′ Sought.Nowhere p = inl (p .0)
+find-answered g m m′ (Sought.InSome i j) p = inl (p .0)
+find-answered g m m′ (Sought.InAll i j) p = inl (p .0)
+find-answered g m m′ (Sought.Refused q) p = inr (q, refl)
+
+pub find : Refuses findMark
+find = refuses findMark
+    (λ g m. record { one = λ p q. find-refused-one (g .shape) (g .mark) p q; not = λ p a. find-refused-not (g .shape) (g .mark) p a })
+    (λ g m m′ q p. p) find-answered (λ g m m′ q p. refl)
+    (λ g m m′ m″ r s p q. (find-determined (g .shape) (g .mark) r s p q, refl))
+
+module _ (d : Direction) where
+  text-answered : Answered (extremeText (ExtremePromise d))
+  text-answered xs m m′ (Written.Text n) p = inl (p .accepted, p .room)
+  text-answered xs m m′ (Written.Refused q) p = inr (q, refl)
+
+  pub text : Refuses (extremeText (ExtremePromise d))
+  text = refuses _
+      (λ xs m. record { one = λ p q. text-one p q; not = λ p a. text-not p (a .0) (a .1) })
+      (λ xs m m′ q p. p .0) text-answered (λ xs m m′ q p. p .1) (extreme-determined d)
+
+-- ---- two shapes, or three
+
+sweep-answered : Answered sweep
+sweep-answered s m m′ (Swept.Places k) p = inl (p .accepted, p .room)
+sweep-answered s m m′ (Swept.Cannot k) p = inl (p .accepted, p .room)
+sweep-answered s m m′ (Swept.Refused q) p = inr (q, refl)
+
+pub sweeps : Refuses sweep
+sweeps = refuses sweep
+    (λ s m. record { one = λ p q. one-refusal (s .x) (s .y) m p q; not = λ p a. not-due (s .x) (s .y) m p (a .0) (a .1) })
+    (λ s m m′ q p. p .0) sweep-answered (λ s m m′ q p. p .1)
+    (λ s m m′ m″ r u p q. sweep-determined (s .x) (s .y) m m′ m″ r u p q)
+
+module _ (R : List ℕ → List ℕ → Type 0) where
+  narrow-answered : Answered (narrowing (NarrowPromise R))
+  narrow-answered s m m′ Narrowed.Narrow p = inl (p .0 .shapes, p .0 .room)
+  narrow-answered s m m′ Narrowed.None p = inl (p .0 .shapes, p .0 .room)
+  narrow-answered s m m′ (Narrowed.Refused q) p = inr (q, refl)
+
+  narrow-outcome : OneOutcome (narrowing (NarrowPromise R))
+  narrow-outcome s m m′ m″ r u p q =
+      let same = narrow-determined R (s .x) (s .y) (m .work) (m .out-x) (m .out-y)
+      (record { work = m′ .work; first = m′ .out-x; second = m′ .out-y; answer = r })
+      (record { work = m″ .work; first = m″ .out-x; second = m″ .out-y; answer = u }) p q in
+      (λ i. same i .answer, λ i. record { work = same i .work; out-x = same i .first; out-y = same i .second })
+
+  pub narrow : Refuses (narrowing (NarrowPromise R))
+  narrow = refuses _ (λ s m. record { one = λ p q. narrow-one p q; not = λ p a. narrow-not p (a .0) (a .1) }) (λ s m m′ q p. p .0) narrow-answered
+      (λ s m m′ q p. λ i. record { work = p .1 .work-kept i; out-x = p .1 .first-kept i; out-y = p .1 .second-kept i }) narrow-outcome
+
+join-answered : Answered narrowJoin
+join-answered s m m′ Narrowed.Narrow p = inl (p .0 .shapes, p .0 .room)
+join-answered s m m′ Narrowed.None p = inl (p .0 .shapes, p .0 .room)
+join-answered s m m′ (Narrowed.Refused q) p = inr (q, refl)
+
+join-outcome : OneOutcome narrowJoin
+join-outcome s m m′ m″ r u p q =
+    let same = join-determined (s .x) (s .y) (s .z) (m .work) (m .out-x) (m .out-y) (m .out-z) r u p q in
+    (same .0, λ i. record { work = same .1 i; out-x = same .2 i; out-y = same .3 i; out-z = same .4 i })
+
+pub join : Refuses narrowJoin
+join = refuses narrowJoin
+    (λ s m. record { one = λ p q. join-refused-one p q; not = λ p a. join-refused-not p (a .0) (a .1) })
+    (λ s m m′ q p. p .0) join-answered
+    (λ s m m′ q p. λ i. record { work = p .1 .work-kept i; out-x = p .1 .first-kept i; out-y = p .1 .second-kept i; out-z = p .1 .third-kept i }) join-outcome
+
+common-answered : Answered commonText
+common-answered s m m′ (Shown.Text n) p = inl (p .0 .shapes, p .0 .room)
+common-answered s m m′ Shown.None p = inl (p .0 .shapes, p .0 .room)
+common-answered s m m′ (Shown.Refused q) p = inr (q, refl)
+
+common-outcome : OneOutcome commonText
+common-outcome s m m′ m″ r u p q =
+    let same = common-one (s .x) (s .y) (m .work) (m .out) (m′ .work) (m′ .out) (m″ .work) (m″ .out) r u p q in
+    (same .0, λ i. record { work = same .1 i; out = same .2 i })
+
+pub common-text : Refuses commonText
+common-text = refuses commonText
+    (λ s m. record { one = λ p q. show-refused-one p q; not = λ p a. show-refused-not p (a .0) (a .1) })
+    (λ s m m′ q p. p .0) common-answered (λ s m m′ q p. λ i. record { work = p .1 i; out = p .2 i }) common-outcome
+
+-- ---- a tray
+
+tray-answered : Answered sweepTray
+tray-answered g m m′ Tray.Judged p = inl (p .0)
+tray-answered g m m′ (Tray.Refused q) p = inr (q, refl)
+
+pub tray : Refuses sweepTray
+tray = refuses sweepTray
+    (λ g m. record { one = λ p q. tray-refused-one p q; not = λ p a. tray-refused-not p a })
+    (λ g m m′ q p. p .0) tray-answered (λ g m m′ q p. p .1)
+    (λ g m m′ m″ r s p q. tray-determined (g .blocks) (g .pairs) m m′ m″ r s p q)
+
+pair-answered : Answered judgePair
+pair-answered g m m′ r (swept a e) = inl a
+pair-answered g m m′ r (refused q d e) = inr (q, e)
+
+pub tray-pair : Refuses judgePair
+tray-pair = refuses judgePair
+    (λ g m. record { one = λ p q. record-refused-one (g .blocks) (g .pair) p q; not = λ p a. record-refused-not (g .blocks) (g .pair) p a })
+    (λ g m m′ q p. record-refused (g .blocks) (g .pair) q p) pair-answered (λ g m m′ q p. refl)
+    (λ g m m′ m″ r s p q. (judged-one (g .blocks) (g .pair) p q, refl))
+
+-- ---- a book, and its file
+
+book-answered : Answered runBook
+book-answered g m m′ (Ran.Stable n) p = inl (p .0 .accepted)
+book-answered g m m′ (Ran.None n) p = inl (p .0 .accepted)
+book-answered g m m′ (Ran.Refused q) p = inr (q, refl)
+
+book-outcome : OneOutcome runBook
+book-outcome g m m′ m″ r s p q =
+    let same = run-determined (g .counts) (m .blocks) (g .rules) (m .work) (m′ .blocks) (m″ .blocks) (m′ .work) (m″ .work) r s p q in
+    (same .0, λ i. record { blocks = same .1 i; work = same .2 i })
+
+pub run-book : Refuses runBook
+run-book = refuses runBook
+    (λ g m. record { one = λ p q. book-one p q; not = λ p a. book-not p a })
+    (λ g m m′ q p. p .0) book-answered (λ g m m′ q p. λ i. record { blocks = p .1 i; work = p .2 i }) book-outcome
+
+pub file-one : (file : List ℕ) (work room : ℕ) → OneOf (inTurn (FileAcceptable file work room) (runTurns file work room))
+file-one file work room = record { one = λ p q. run-refused-one p q; not = λ p a. run-file-not (a .writing) (a .accepted) (a .enough) p }
+
+file-answered : (file : List ℕ) (work : ℕ) (report report′ : List ℕ) (r : Written) → FileAnswer file work report report′ r
+    → FileAcceptable file work (length report) ⊎ ((q : Refusal) × (r ≡ Written.Refused q))
+file-answered file work report report′ (Written.Text m) p =
+    inl (record { its-book = p .book; writing = p .accepted; accepted = p .written .accepted; enough = p .written .room })
+file-answered file work report report′ (Written.Refused q) p = inr (q, refl)
+
+pub run-file : Refuses runFile
+run-file = refuses runFile (λ file m. file-one file 63001 (length m)) (λ file m m′ q p. p .0) (λ file m m′ r p. file-answered file 63001 m m′ r p)
+    (λ file m m′ q p. p .1) run-file-determined
+
+-- the number that a host is handed stands for a refusal that is due
+pub run-host : Demand1Of runHost
+run-host = record {
+  acceptable = λ {g} {m} {m′} a q p.
+      let r = host-refused g (m .report) (m .work) (m′ .report) (m′ .work) q p in
+      file-one g (length (m .work)) (length (m .report)) .not (r .1 .0 .0) a;
+  malformed = λ {g} {m} {m′} n z p. go g m m′ n z p (file-answered g (length (m .work)) (m .report) (m′ .report) (p .answer) (p .runs .0));
+  one-refusal = λ g m t u p q. file-one g (length (m .work)) (length (m .report)) .one p q;
+  untouched = λ {g} {m} {m′} q p.
+      let r = host-refused g (m .report) (m .work) (m′ .report) (m′ .work) q p in
+      λ i. record { report = r .1 .0 .1 i; work = r .1 .1 i };
+  one-outcome = λ {g} {m} {m′} {m″} y z p q.
+      let same = host-determined g (m .report) (m .work) (m′ .report) (m″ .report) (m′ .work) (m″ .work) y z p q in
+      (same .0, λ i. record { report = same .1 i; work = same .2 i });
 }
   where
-    malformed : (JoinAccepted xs ys zs × JoinRoom xs ys zs (length work) (length ox) (length oy) (length oz) → ⊥) → (r : Narrowed)
-        → NarrowJoin xs ys zs work ox oy oz work′ ox′ oy′ oz′ r
-        → (q : Refusal) × (r ≡ Narrowed.Refused q) × JoinRefused xs ys zs (length work) (length ox) (length oy) (length oz) (told q)
-    malformed n Narrowed.Narrow p = absurd (n (p .0 .shapes, p .0 .room))
-    malformed n Narrowed.None p = absurd (n (p .0 .shapes, p .0 .room))
-    malformed n (Narrowed.Refused q) p = (q, refl, p .0)
-
-pub run-book-refuses : (counts blocks rules work blocks′ work′ : List ℕ)
-    → Refuses Ran.Refused (RunBook counts blocks rules work blocks′ work′) (BookAccepted counts blocks rules (length work)) (BookRefused counts blocks rules (length work))
-run-book-refuses counts blocks rules work blocks′ work′ = record { acceptable = λ a q p. book-not (p .0) a; malformed = malformed; one = λ t u p q. book-one p q }
-  where
-    malformed : (BookAccepted counts blocks rules (length work) → ⊥) → (r : Ran) → RunBook counts blocks rules work blocks′ work′ r
-        → (q : Refusal) × (r ≡ Ran.Refused q) × BookRefused counts blocks rules (length work) (told q)
-    malformed n (Ran.Stable m) p = absurd (n (p .0 .accepted))
-    malformed n (Ran.None m) p = absurd (n (p .0 .accepted))
-    malformed n (Ran.Refused q) p = (q, refl, p .0)
-
-answer-malformed : (file : List ℕ) (work : ℕ) (report report′ : List ℕ) → (FileAcceptable file work (length report) → ⊥) → (r : Written) → FileAnswer file work report report′ r
-    → (q : Refusal) × (r ≡ Written.Refused q) × RunRefused file work (length report) (told q)
-answer-malformed file work report report′ n (Written.Text m) p =
-    absurd (n (record { book = p .book; writing = p .accepted; accepted = p .written .accepted; enough = p .written .room }))
-answer-malformed file work report report′ n (Written.Refused q) p = (q, refl, p .0)
-
-pub run-file-refuses : (file report report′ : List ℕ)
-    → Refuses Written.Refused (RunFile file report report′) (FileAcceptable file 63001 (length report)) (RunRefused file 63001 (length report))
-run-file-refuses file report report′ = record {
-  acceptable = λ a q p. run-file-not (a .writing) (a .accepted) (a .enough) (p .0);
-  malformed = λ n r p. answer-malformed file 63001 report report′ n r p;
-  one = λ t u p q. run-refused-one p q;
-}
-
-pub run-host-refuses : (book report work report′ work′ : List ℕ)
-    → Refuses negated (RunHost book report work report′ work′) (FileAcceptable book (length work) (length report)) (RunRefused book (length work) (length report))
-run-host-refuses book report work report′ work′ = record {
-  acceptable = λ a q p. let r = host-refused book report work report′ work′ q p in run-file-not (a .writing) (a .accepted) (a .enough) (r .1 .0 .0);
-  malformed = λ n z p.
-      let m = answer-malformed book (length work) report report′ n (p .answer) (p .runs .0) in
-      (m .0, p .number ∙ ap handed (m .1), m .2);
-  one = λ t u p q. run-refused-one p q;
-}
+    go : (file : List ℕ) (m m′ : HostMemory) → (runHost .checked file m .good → ⊥) → (z : ℤ) (p : runHost .Promise file m m′ z)
+        → runHost .checked file m .good ⊎ ((q : Refusal) × (p .answer ≡ Written.Refused q))
+        → (q : Refusal) × (z ≡ negated q) × runHost .checked file m .due (told q)
+    go file m m′ n z p (inl a) = absurd (n a)
+    go file m m′ n z p (inr (q, e)) = (q, p .number ∙ ap handed e, subst (FileAnswer file (length (m .work)) (m .report) (m′ .report)) e (p .runs .0) .0)

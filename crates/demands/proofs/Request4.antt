@@ -1,24 +1,19 @@
 -- Request 4 of document 02 holds: each field by citation. Assumes nothing.
 use mathlib.Core.Path.{_≡_, sym, ap, _∙_, subst}
-use mathlib.Core.List.{List}
 use mathlib.Core.Logic.{_⊎_, inl, inr}
-use Prim.Native.Nat.{ℕ, _≤_, _<_}
+use Prim.Native.Nat.{ℕ, _<_}
 use lib.IntN.{ℤ, pos}
-use lib.ListN.{length, take, drop}
+use lib.ListN.{length}
 use Rattle.answers.specs.declared.Refusal.{Refusal}
 use Rattle.answers.specs.declared.Refusal.the-variants.{Output}
 use Rattle.answers.specs.declared.Written.{Written}
-use Rattle.file_reports.specs.Report.{Verdict, reportOf, Reported}
+use Rattle.file_reports.specs.Report.{reportOf}
 use Rattle.file_runs.proofs.Determined.{text-report}
 use Rattle.file_runs.proofs.Ends.{file-ends-one}
 use Rattle.file_runs.proofs.Lent as lent
 use Rattle.host_calls.specs.Host.{negated, handed}
 use Rattle.host_calls.proofs.Numbers.{not-count, host-written, host-refused}
-use Rattle.demands.specs.Requests.{Request4}
-
-whole : {v : Verdict} {out out′ : List ℕ} {n : ℕ} → Reported v out out′ n → (0 < n) × (n ≤ 16384) × (length (take n out′) ≡ n) × (drop n out′ ≡ drop n out)
-whole {v = v} p =
-    (subst (λ (k : ℕ). 0 < k) (sym (p .count)) (lent.some-bytes v), p .short, ap length (lent.reported-front p) ∙ sym (p .count), lent.reported-rest p)
+use Rattle.demands.specs.Request4.{Request4}
 
 either : (x : Written) (z : ℤ) → z ≡ handed x → ((n : ℕ) × (z ≡ pos n)) ⊎ ((q : Refusal) × (z ≡ negated q))
 either (Written.Text n) z e = inl (n, e)
@@ -26,12 +21,19 @@ either (Written.Refused q) z e = inr (q, e)
 
 pub request-4 : Request4
 request-4 = record {
-  written = λ n p. whole (host-written _ _ _ _ _ n p .0 .written .report .reported);
-  as-printed = λ n p v d. let r = text-report (host-written _ _ _ _ _ n p .0) in lent.reported-front (r .reported) ∙ ap reportOf (file-ends-one (r .due) d);
-  zeroed = λ n p. host-written _ _ _ _ _ n p .1;
+  counted = λ n p.
+      let w = host-written _ _ _ _ _ n p in
+      let r = text-report (w .0) in
+      let report = r .reported in
+      record {
+        written = (subst (λ (k : ℕ). 0 < k) (sym (report .count)) (lent.some-bytes _), report .short, ap length (lent.reported-front report) ∙ sym (report .count));
+        rest = lent.reported-rest report;
+        as-printed = λ v d. lent.reported-front report ∙ ap reportOf (file-ends-one (r .due) d);
+        zeroed = w .1;
+      };
   count-or-refusal = λ z p. either (p .answer) z (p .number);
   not-both = not-count;
-  as-run-file = λ z r h p q.
+  as-run-file = λ book report′ m m′ z r h p q.
       let one = lent.lent-as-own _ _ _ _ _ _ (p .answer) r h (p .runs) q in
       (p .number ∙ ap handed (one .0), one .1);
   less-for-text = λ z n h p q. p .number ∙ ap handed (lent.less-for-text _ _ _ _ _ _ (p .answer) n h (p .runs) q);

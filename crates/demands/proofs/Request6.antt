@@ -7,7 +7,7 @@ use Rattle.extreme_steps.specs.declared.Direction.{Direction}
 use Rattle.extreme_steps.specs.declared.Direction.the-variants.{Least, Greatest}
 use Rattle.extreme_steps.specs.Steps.{extreme}
 use Rattle.extremes.specs.Extreme.{ExtremePromise}
-use Rattle.demands.specs.Requests.{AsBefore, Request6}
+use Rattle.demands.specs.Request6.{AsBefore, Request6}
 use Rattle.demands.proofs.Demands.{written}
 
 as-before : (d : Direction) → AsBefore d (ExtremePromise d)
@@ -17,5 +17,5 @@ as-before d = record {
   refused = λ q p. p .0;
 }
 
-pub request6 : Request6
-request6 = record { least = as-before Least; greatest = as-before Greatest }
+pub request-6 : Request6
+request-6 = record { least = as-before Least; greatest = as-before Greatest }

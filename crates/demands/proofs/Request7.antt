@@ -3,21 +3,22 @@ use mathlib.Core.Path.{_≡_, refl, _∙_, subst}
 use mathlib.Core.Bool.{true, false, false≢true}
 use mathlib.Core.List.{List, [], _++_}
 use mathlib.Core.Logic.{_↔_, inr}
-use Prim.Native.Nat.{ℕ, _+_, _≤_, _<_}
+use Prim.Native.Nat.{ℕ, _≤_, _<_}
 use native.Mathlib.Omega.{arith}
 use lib.ListN.{length, getD}
 use Rattle.answers.specs.Told.{Told, told}
 use Rattle.answers.specs.Turns.{here, later}
+use Rattle.answers.proofs.Turns
 use Rattle.answers.specs.declared.Refusal.{Refusal}
 use Rattle.answers.specs.declared.Sought.{Sought}
 use Rattle.answers.specs.declared.Sought.the-variants.{Nowhere, InSome, InAll, Refused}
-use Rattle.bases.specs.Base.{Holds}
+use Rattle.bases.specs.Base.{Holds, codes}
 use Rattle.sets.proofs.Exact.{held-under}
-use Rattle.shapes.specs.All.{All}
-use Rattle.shapes.specs.All.All.{none, more}
+use Rattle.plain.specs.All.{All}
+use Rattle.plain.specs.All.All.{none, more}
 use Rattle.shapes.specs.Shape.{Block, Filling, done, fill, Fits, textOf}
 use Rattle.shapes.specs.Lent.{Numbers, shapeOf, Accepted}
-use Rattle.shapes.proofs.All.{all-append, all-left, all-right, all-at, all-map}
+use Rattle.plain.proofs.All.{all-append, all-left, all-right, all-at, all-map}
 use Rattle.shapes.proofs.Lent.{small-bases}
 use Rattle.shapes.proofs.Refused.{shape-not}
 use Rattle.find_texts.specs.Occurs.{Lacks, FirstAt, SomeLacks, SomeFirst}
@@ -27,9 +28,10 @@ use Rattle.find_texts.proofs.Whole.{lacks-or-has, some-text}
 use Rattle.find_calls.specs.Find.{Asked, FindRefused, lacking, leastIndex, greatestIndex}
 use Rattle.find_calls.proofs.Determined.{find-refused-not, has-not-lacks}
 use Rattle.dashed.specs.Promises.{FindMark}
-use Rattle.demands.specs.Requests.{Request7}
+use Rattle.demands.specs.Call.{findMark}
+use Rattle.demands.specs.Request7.{Request7}
 use Rattle.demands.proofs.Numbers.{shape-other}
-use Rattle.demands.proofs.Refusals.{find-refuses}
+use Rattle.demands.proofs.Refusals.{find}
 use Rattle.demands.proofs.Request1.{tells}
 
 -- some text of an accepted shape lacks what all of them lack
@@ -98,8 +100,8 @@ module _ {xs mark : List ℕ} (a : Asked xs mark) where
       go (InAll k m) q = absurd (not-there (q .1 .1 .at-least))
       go (Refused k) q = absurd (find-refused-not xs mark q a)
 
-  above-127 : (r : Sought) → Numbers xs → FindMark xs mark r → (j : ℕ) → j < length mark → 128 ≤ getD mark j 0 → r ≡ Nowhere
-  above-127 r n p j l h = never r p j l (all-map (λ b s held. let k = held-under 128 s (getD mark j 0) held in omega arith) (small-bases xs n))
+  above-127 : (r : Sought) → Numbers xs → FindMark xs mark r → (j : ℕ) → j < length mark → codes ≤ getD mark j 0 → r ≡ Nowhere
+  above-127 r n p j l h = never r p j l (all-map (λ b s held. let k = held-under codes s (getD mark j 0) held in omega arith) (small-bases xs n))
 
 empty-answer : {xs : List ℕ} (r : Sought) → Accepted xs → FindMark xs [] r → (lacking r ≡ false) × (leastIndex r ≡ 1) × (greatestIndex r ≡ 1)
 empty-answer {xs} Nowhere a p = let t = some-text (a .sound) in absurd (p .1 (t .0) (t .1) .nowhere 1 (empty-first (t .0) .there))
@@ -120,16 +122,20 @@ thirteen-only xs mark q p e = go (told q) p e
   where
     go : (t : Told) → FindRefused xs mark t → t .number ≡ 13 → Accepted xs × (64 < length mark)
     go t (here d) n = absurd (shape-other (omega arith, inr (omega arith)) d n)
-    go t (later a d) n = (a, let l = d .lacking in omega (arith, l))
+    go t (later a (here d)) n = (a, let l = d .lacking in omega (arith, l))
 
-pub request7 : Request7
-request7 = record {
-  lacks = λ r a p. lacks a r p;
-  least-there = λ r a p. least-there a r p;
-  greatest-there = λ r a p. greatest-there a r p;
-  between = λ r a p. between a r p;
-  none-has = λ r a p. none-has a r p;
-  none-both = λ r a p. none-both a r p;
+pub request-7 : Request7
+request-7 = record {
+  found = λ xs mark r a p. record {
+    lacks = lacks a r p;
+    least-there = least-there a r p;
+    greatest-there = greatest-there a r p;
+    between = between a r p;
+    none-has = none-has a r p;
+    none-both = none-both a r p;
+    never = never a r p;
+    above-127 = λ n. above-127 a r n p;
+  };
   lacks-or-has = lacks-or-has;
   lacks-not-has = λ l o. l .nowhere _ o;
   one-first = λ p q. let a = p .first _ (q .there) in let b = q .first _ (p .there) in omega arith;
@@ -138,9 +144,7 @@ request7 = record {
   none-at-0 = λ o. let w = occurs-within o .1 in omega arith;
   empty-mark = empty-first;
   empty-answer = λ r a p. empty-answer r a p;
-  never = λ r a p. never a r p;
-  above-127 = λ r n a p. above-127 a r n p;
-  shape-first = λ xs mark t d. tells (find-refuses xs mark) (λ a. shape-not d (a .0)) (here d);
-  thirteen = λ xs mark a l. tells (find-refuses xs mark) (λ b. let g = b .1 in omega arith) (later a (record { lacking = λ h. omega arith; tells = refl }));
+  shape-first = λ g t d. tells findMark g tt (find .demand) (λ a. shape-not d (a .accepted)) (here d);
+  thirteen = λ g a l. tells findMark g tt (find .demand) (λ b. let few = b .few in omega arith) (later a (here (Turns.lacks (λ few. omega arith))));
   thirteen-only = thirteen-only;
 }

@@ -2,19 +2,19 @@
 use mathlib.Core.Path.{_≡_, sym, ap, _∙_, subst}
 use mathlib.Core.List.{List}
 use mathlib.Core.Logic.{⊎-elim}
-use Prim.Native.Nat.{ℕ, _+_, _-_, _/_, _≤_, _<_}
+use Prim.Native.Nat.{ℕ, _+_, _-_, _≤_, _<_}
 use native.Mathlib.Omega.{arith}
 use lib.Bits.{bitOr}
 use lib.ListN.{length, getD, take, replicate}
 use Rattle.bases.specs.Base.{Holds, Meets}
-use Rattle.bases.specs.Tells.{Tells}
-use Rattle.bases.proofs.Plain.{lt-or-le}
+use Rattle.plain.specs.Tells.{Tells}
+use Rattle.plain.proofs.Plain.{lt-or-le}
 use Rattle.sets.specs.Set.{setOf, Exactly}
 use Rattle.sets.proofs.Exact.{exactly-at}
-use Rattle.shapes.specs.Shape.{Block, noBlock, total}
+use Rattle.shapes.specs.Shape.{Block, noBlock, total, blockCount}
 use Rattle.shapes.specs.Lent.{shapeOf, blockAt}
 use Rattle.shapes.proofs.Lent.{shape-length, shape-at}
-use Rattle.rests.specs.Walk.{slotAt}
+use Rattle.walks.specs.Walk.{slotAt}
 use Rattle.pads.specs.Pad.{paddedAt}
 use Rattle.pads.proofs.Paths.{padded-end, ended}
 use Rattle.rows.specs.Row.{rowIn, PutRow}
@@ -48,11 +48,11 @@ fresh-gathered f x = record {
 -- ---- the pass
 
 -- where the block before starts
-pub pass-place : {pad : ℕ} (x : List ℕ) {y : List ℕ} {n p : ℕ} {g : Gathered} {moved : ℕ} {own others : List ℕ} (i : ℕ) → i < length x / 4 → n ≡ i + 1 → PassFrom pad x y n p g moved own others → p ≡ total (take i (shapeOf x)) + blockAt x i .upper
+pub pass-place : {pad : ℕ} (x : List ℕ) {y : List ℕ} {n p : ℕ} {g : Gathered} {moved : ℕ} {own others : List ℕ} (i : ℕ) → i < blockCount x → n ≡ i + 1 → PassFrom pad x y n p g moved own others → p ≡ total (take i (shapeOf x)) + blockAt x i .upper
 pass-place x i l d t = t .place ∙ ap (λ (z : ℕ). total (take z (shapeOf x))) d ∙ total-more x i l
 
-module _ (pad : ℕ) (x y : List ℕ) {z e s mines rows : List ℕ} {last : ℕ} (lay : Lay (shapeOf y) z e s) (pass : Pass pad x y mines rows last) (short : total (shapeOf y) ≤ 250) {k : ℕ} (blocks : k ≡ length y / 4) where
-  pub pass-end : {n p : ℕ} {g : Gathered} {own others others′ : List ℕ} {moved : ℕ} → n ≡ length x / 4 → p ≡ total (shapeOf x) → EndBack pad y p last g
+module _ (pad : ℕ) (x y : List ℕ) {z e s mines rows : List ℕ} {last : ℕ} (lay : Lay (shapeOf y) z e s) (pass : Pass pad x y mines rows last) (short : total (shapeOf y) ≤ 250) {k : ℕ} (blocks : k ≡ blockCount y) where
+  pub pass-end : {n p : ℕ} {g : Gathered} {own others others′ : List ℕ} {moved : ℕ} → n ≡ blockCount x → p ≡ total (shapeOf x) → EndBack pad y p last g
       → moved ≡ setOf (g .used) → others ≡ replicate (length others) 0 → Given (rowIn s) k moved pad (rowIn others) (rowIn others′) → PassFrom pad x y n p g moved own others′
   pass-end {n} {p} {g} {own} {others} {others′} {moved} d f b v o gi = record {
     place = f ∙ sym (total-all x n (omega arith));
@@ -85,7 +85,7 @@ module _ (pad : ℕ) (x y : List ℕ) {z e s mines rows : List ℕ} {last : ℕ}
       used : Exactly moved (Used X Y U W U (U + 1))
       used = exactly-at v (got .used-is)
 
-  pub pass-more : {i n p q m : ℕ} {b : Block} {g f r : Gathered} {own own′ others others′ : List ℕ} {mine waits moved moved′ c : ℕ} → n ≡ i + 1 → i < length x / 4 → b ≡ blockAt x i → q ≡ p + b .upper
+  pub pass-more : {i n p q m : ℕ} {b : Block} {g f r : Gathered} {own own′ others others′ : List ℕ} {mine waits moved moved′ c : ℕ} → n ≡ i + 1 → i < blockCount x → b ≡ blockAt x i → q ≡ p + b .upper
       → m ≡ total (shapeOf y) → PassFrom pad x y n q g moved own others → Fresh g f → mine ≡ rowIn mines i → Exactly waits (λ q. Meets (b .base) pad × (q ≡ m))
       → Whenever (rowIn z) (rowIn e) k mine waits p b (BlockBack rows p b f r)
       → Chars (setOf (r .used)) y s k m pad c → PutRow own i c own′ → Given (rowIn s) k (setOf (r .used)) (b .base) (rowIn others) (rowIn others′)

@@ -1,5 +1,5 @@
-// Equality's second pass: rows from the ends, and what both shapes' blocks are given on the way. The padding is a set of characters: none of them, or the
-// blank.
+// Equality's second pass: rows from the ends, and what both shapes' blocks are given on the way. The padding is a set
+// of characters: none of them, or the blank.
 use back_rows::Gathered;
 use row_steps::Runs;
 use sets::Set;
@@ -16,7 +16,7 @@ ghost use Rattle.carries.specs.Climb.{Spans};
 ghost use Rattle.row_lay.specs.Lay.{Lay};
 ghost use Rattle.equal_forth.specs.Forth.{Pass};
 ghost use Rattle.back_rows.specs.Rows.{Whenever, BlockBack};
-ghost use Rattle.equal_back.specs.Back.{Fresh, EndBack, Wide, SideTold};
+ghost use Rattle.equal_back.specs.Back.{Fresh, EndBack, Roomed, SideTold};
 
 // Where the runs of each shape end early, and where it takes a character.
 pub struct Ways {
@@ -176,7 +176,8 @@ fn fresh(g: Gathered) -> Gathered
     }
 }
 
-// What is gathered at the ends n of X and m of Y, where f is the last row of the first pass: X waits, and Y goes on over padding.
+// What is gathered at the ends n of X and m of Y, where f is the last row of the first pass: X waits, and Y goes on
+// over padding.
 fn at_end(
     y: &[u64],
     zones: &[u64],
@@ -190,7 +191,7 @@ fn at_end(
 ) -> Gathered
     requires { ⌜ Whole (now y) × (k ≡ blockCount (now y)) × (m ≡ total (shapeOf (now y))) ⌝ }
     requires { ⌜ Lay (shapeOf (now y)) (now zones) (now ends) (now slots) ⌝ }
-    requires { ⌜ (length (now y) ≤ length (now zones)) × (length (now y) ≤ length (now ends)) × (length (now y) ≤ length (now slots)) ⌝ }
+    requires { ⌜ (blockCount (now y) ≤ rowCount (now zones)) × (blockCount (now y) ≤ rowCount (now ends)) × (blockCount (now y) ≤ rowCount (now slots)) ⌝ }
     requires { ⌜ n < 256 ⌝ }
     ensures { λ r. ⌜ EndBack (setOf pad) (now (y .entry)) n (setOf f) r ⌝ }
 {
@@ -206,8 +207,8 @@ fn at_end(
     }
 }
 
-// All blocks of x beside y, from the last to the first: writes the characters of each block of both, and gives where their runs end early and
-// where they take a character. `own` and `others` are blank at first.
+// All blocks of x beside y, from the last to the first: writes the characters of each block of both, and gives where
+// their runs end early and where they take a character. `own` and `others` are blank at first.
 pub fn back(
     x: &[u64],
     y: &[u64],
@@ -224,7 +225,7 @@ pub fn back(
     requires { ⌜ Whole (now x) × Whole (now y) ⌝ }
     requires { ⌜ Lay (shapeOf (now y)) (now zones) (now ends) (now slots) ⌝ }
     requires { ⌜ Pass (setOf pad) (now x) (now y) (now mines) (now rows) (setOf last) ⌝ }
-    requires { ⌜ Wide (now x) (now y) (now zones) (now ends) (now slots) (now mines) (now rows) (now own) (now others) ⌝ }
+    requires { ⌜ Roomed (now x) (now y) (now zones) (now ends) (now slots) (now mines) (now rows) (now own) (now others) ⌝ }
     requires { ⌜ now others ≡ replicate (length (now others)) 0 ⌝ }
     ensures { λ r. ⌜ SideTold (setOf pad) (now (x .entry)) (now (y .entry)) (setOf (r .stops)) (setOf (r .takes)) (now (own .exit)) ⌝ }
     ensures { λ r. ⌜ SideTold (setOf pad) (now (y .entry)) (now (x .entry)) (setOf (r .quit)) (setOf (r .moved)) (now (others .exit)) ⌝ }

@@ -2,16 +2,16 @@
 use mathlib.Core.Path.{_≡_, refl, sym, ap, _∙_, subst}
 use mathlib.Core.List.{List}
 use mathlib.Core.Logic.{⊎-elim}
-use Prim.Native.Nat.{ℕ, _+_, _-_, _/_, _≤_, _<_}
+use Prim.Native.Nat.{ℕ, _+_, _-_, _≤_, _<_}
 use native.Mathlib.Omega.{arith}
-use lib.ListN.{length, take}
+use lib.ListN.{take}
 use Rattle.bases.specs.Base.{Meets}
-use Rattle.bases.proofs.Plain.{lt-or-le}
+use Rattle.plain.proofs.Plain.{lt-or-le}
 use Rattle.sets.specs.Set.{Exactly}
 use Rattle.sets.proofs.Exact.{exactly-as, exactly-at}
-use Rattle.shapes.specs.Shape.{Block, total}
+use Rattle.shapes.specs.Shape.{Block, total, blockCount}
 use Rattle.shapes.specs.Lent.{shapeOf, blockAt}
-use Rattle.rests.specs.Walk.{slotAt}
+use Rattle.walks.specs.Walk.{slotAt}
 use Rattle.pads.specs.Pad.{PadPath, paddedAt}
 use Rattle.pads.proofs.Paths.{padded-end, ended}
 use Rattle.rows.specs.Row.{rowIn, PutRow}
@@ -41,7 +41,7 @@ pass-none pad {x} {y} v = record {
   enter = exactly-as (λ j e. start refl e) (entered-first pad (shapeOf x) (shapeOf y)) v;
 }
 
-pub pass-more : {pad : ℕ} {x y mines mines′ rows rows′ : List ℕ} {Z E : ℕ → ℕ} {k i p s r mine waits : ℕ} {b : Block} → i < length x / 4 → b ≡ blockAt x i → Zones (paddedAt pad (shapeOf y)) Z E k
+pub pass-more : {pad : ℕ} {x y mines mines′ rows rows′ : List ℕ} {Z E : ℕ → ℕ} {k i p s r mine waits : ℕ} {b : Block} → i < blockCount x → b ≡ blockAt x i → Zones (paddedAt pad (shapeOf y)) Z E k
     → Exactly mine (λ q. Meets (b .base) (slotAt (shapeOf y) q .base)) → Shares (paddedAt pad (shapeOf y)) (b .base) mine waits → PassTo pad x y i p mines rows s → PutRow mines i mine mines′
     → Follows Z E k mine waits p b s (λ X Y. BlockRows X Y p b rows′ r) → RowsKept p rows rows′ → PassTo pad x y (i + 1) (p + b .upper) mines′ rows′ r
 pass-more {pad} {x} {y} {mines} {mines′} {rows} {rows′} {i = i} {p = p} {s = s} {mine = mine} {b = b} l d z m v t u f w =
@@ -61,7 +61,7 @@ pass-more {pad} {x} {y} {mines} {mines′} {rows} {rows′} {i = i} {p = p} {s =
       enter = got .next-is;
     }
 
-pub pass-all : {pad : ℕ} {x y mines rows rows′ : List ℕ} {i p s r : ℕ} → length x / 4 ≤ i → PassTo pad x y i p mines rows s
+pub pass-all : {pad : ℕ} {x y mines rows rows′ : List ℕ} {i p s r : ℕ} → blockCount x ≤ i → PassTo pad x y i p mines rows s
     → Exactly r (Trails (paddedAt pad (shapeOf y)) pad s) → PutRow rows p r rows′ → Pass pad x y mines rows′ r
 pass-all {pad} {x} {y} {mines} {rows} {rows′} {i = i} {p = p} {s = s} {r = r} l t v u =
     let X : ℕ → Block = paddedAt pad (shapeOf x) in

@@ -1,4 +1,5 @@
--- Equality's first pass: row i has the positions of Y to which one text, but for padding, leads from the starts, beside position i of X.
+-- Equality's first pass: row i has the positions of Y to which one text, but for padding, leads from the starts, beside
+-- position i of X.
 use mathlib.Core.Path.{_≡_}
 use mathlib.Core.List.{List}
 use Prim.Native.Nat.{ℕ, _≤_, _<_}
@@ -8,13 +9,14 @@ use Rattle.sets.specs.declared.Set.{Set}
 use Rattle.sets.specs.Set.{setOf, Exactly}
 use Rattle.shapes.specs.Shape.{total, blockCount}
 use Rattle.shapes.specs.Lent.{shapeOf, blockAt}
-use Rattle.rests.specs.Walk.{slotAt}
+use Rattle.walks.specs.Walk.{slotAt}
 use Rattle.pads.specs.Pad.{PadPath, paddedAt}
 use Rattle.rows.specs.Row.{rowIn}
 use Rattle.row_steps.specs.declared.Runs.{Runs}
 use Rattle.row_paths.specs.Rows.{Entered}
 
--- The first i blocks of the shape x beside the shape y, each with the padding behind it: their rows, where their bases meet Y's, and what the next position p is entered by.
+-- The first i blocks of the shape x beside the shape y, each with the padding behind it: their rows, where their bases
+-- meet Y's, and what the next position p is entered by.
 pub record PassTo (pad : ℕ) (x y : List ℕ) (i p : ℕ) (mines rows : List ℕ) (s : ℕ) : Type 0 where
   pub place : p ≡ total (take i (shapeOf x))
   pub mine : (h : ℕ) → h < i → Exactly (rowIn mines h) (λ q. Meets (blockAt x h .base) (slotAt (shapeOf y) q .base))

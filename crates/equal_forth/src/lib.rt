@@ -1,5 +1,5 @@
-// Equality's first pass: for each position of one shape the row of the positions of the other that one text, but for padding, leads to from the starts.
-// The padding is a set of characters: none of them, or the blank.
+// Equality's first pass: for each position of one shape the row of the positions of the other that one text, but for
+// padding, leads to from the starts. The padding is a set of characters: none of them, or the blank.
 use row_steps::Runs;
 use sets::Set;
 use shapes::Block;
@@ -9,7 +9,7 @@ ghost use Prim.Native.Nat.{_+_, _/_, _≤_, _<_};
 ghost use lib.ListN.{length};
 ghost use Rattle.sets.specs.Set.{setOf};
 ghost use Rattle.shapes.specs.Lent.{Whole, meant, shapeOf};
-ghost use Rattle.shapes.specs.Shape.{total};
+ghost use Rattle.shapes.specs.Shape.{total, blockCount};
 ghost use Rattle.rows.specs.Row.{rowIn, rowCount};
 ghost use Rattle.rows.specs.Steps.{InTurn, Together};
 ghost use Rattle.row_lay.specs.Lay.{Lay};
@@ -75,7 +75,8 @@ fn forth_block(
     forth_rows::forth_wide(zones, ends, k, runs, mine, waits, b, p, s, rows)
 }
 
-// The rows of all blocks of x beside y, which is laid out in `zones`, `ends` and `slots`; gives the last, in which y alone goes on over padding.
+// The rows of all blocks of x beside y, which is laid out in `zones`, `ends` and `slots`; gives the last, in which y
+// alone goes on over padding.
 pub fn forth(
     x: &[u64],
     y: &[u64],
@@ -88,8 +89,8 @@ pub fn forth(
 ) -> Set
     requires { ⌜ Whole (now x) × Whole (now y) ⌝ }
     requires { ⌜ Lay (shapeOf (now y)) (now zones) (now ends) (now slots) ⌝ }
-    requires { ⌜ (length (now y) ≤ length (now zones)) × (length (now y) ≤ length (now ends)) × (length (now y) ≤ length (now slots)) ⌝ }
-    requires { ⌜ (length (now x) ≤ length (now mines)) × (total (shapeOf (now x)) < rowCount (now rows)) ⌝ }
+    requires { ⌜ (blockCount (now y) ≤ rowCount (now zones)) × (blockCount (now y) ≤ rowCount (now ends)) × (blockCount (now y) ≤ rowCount (now slots)) ⌝ }
+    requires { ⌜ (blockCount (now x) ≤ rowCount (now mines)) × (total (shapeOf (now x)) < rowCount (now rows)) ⌝ }
     ensures { λ r. ⌜ Pass (setOf pad) (now (x .entry)) (now (y .entry)) (now (mines .exit)) (now (rows .exit)) (setOf r) ⌝ }
     ensures { λ _. ⌜ (length (now (mines .exit)) ≡ length (now (mines .entry))) × (length (now (rows .exit)) ≡ length (now (rows .entry))) ⌝ }
 {

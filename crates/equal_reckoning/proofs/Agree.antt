@@ -5,7 +5,7 @@ use Prim.Native.Nat.{ℕ}
 use Rattle.shapes.specs.Lent.{Whole, shapeOf}
 use Rattle.hulls.specs.Hull.{none, shapes, to-none, to-shapes}
 use Rattle.hulls.proofs.Hull.{one-outcome}
-use Rattle.rests.specs.Walk.{Same}
+use Rattle.walks.specs.Walk.{Same}
 use Rattle.pairs.specs.Narrow.{Narrows, NoPair}
 use Rattle.equal_reckoning.specs.Equal.{equalHull}
 use Rattle.equal_reckoning.proofs.Exact.{equal-exact}

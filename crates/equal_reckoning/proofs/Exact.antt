@@ -7,22 +7,23 @@ use native.Mathlib.Omega.{arith}
 use borrow.Author.Tests.{eqb-true, eqb-false}
 use lib.Dec.{eqb, ltb}
 use lib.ListN.{length, getD, take}
-use Rattle.bases.specs.Tells.{Tells}
-use Rattle.shapes.specs.All.{All}
+use Rattle.plain.specs.Tells.{Tells}
+use Rattle.plain.specs.All.{All}
 use Rattle.shapes.specs.Shape.{Block, Sound, total, noBlock}
 use Rattle.hulls.specs.Hull.{Pairs, NarrowsTo, to-none, to-shapes}
 use Rattle.hulls.proofs.Hull.{same-rule, same-none}
-use Rattle.rests.specs.Walk.{slotAt, Path, Bounded, Same}
-use Rattle.rests.proofs.Walks.{turn-path}
-use Rattle.rests.proofs.Laid.{bounded}
+use Rattle.walks.specs.Walk.{slotAt, Path, Bounded, Same}
+use Rattle.walks.proofs.Walks.{turn-path}
+use Rattle.walks.proofs.Laid.{bounded}
 use Rattle.pads.specs.Pad.{PadPath, paddedAt}
 use Rattle.pads.specs.Collect.{Ends, Collected}
 use Rattle.pads.proofs.But.{but-nothing, nothing-but}
 use Rattle.pads.proofs.Cut.{Place}
 use Rattle.pads.proofs.Paths.{path-pad, pad-path, slots-nothing, slot-roomy}
 use Rattle.pads.proofs.Tight.{place, equal-none, equal-hull, some-first}
+use Rattle.plain.proofs.Tells.{tells-so}
 use Rattle.equal_reckoning.specs.Equal.{and, at, listed, lastRows, froms, sign, signs, tableOf, cellOf, blockTold, blocksOf, outcome, fromTable, equalHull}
-use Rattle.equal_reckoning.proofs.Tests.{tells-and, tells-as, tells-so, tells-ltb, listed-at}
+use Rattle.equal_reckoning.proofs.Tests.{tells-and, tells-as, tells-ltb, listed-at}
 use Rattle.equal_reckoning.proofs.Finish.{RowsFrom, last-rows}
 use Rattle.equal_reckoning.proofs.Reach.{RowsTo, first-rows}
 use Rattle.equal_reckoning.proofs.Gather.{Told, turn-told, block-says, blocks-size, blocks-at}

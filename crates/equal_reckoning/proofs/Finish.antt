@@ -7,10 +7,10 @@ use Prim.Native.Nat.{ℕ, zero, suc, _+_, _-_, _≤_}
 use native.Mathlib.Omega.{arith}
 use lib.ListN.{getD}
 use Rattle.bases.specs.Base.{Meets}
-use Rattle.bases.specs.Tells.{Tells}
+use Rattle.plain.specs.Tells.{Tells}
 use Rattle.shapes.specs.Shape.{Block}
-use Rattle.rests.specs.Walk.{first, second, both, Path, stay, move, Bounded}
-use Rattle.rests.proofs.Walks.{below, below-character, path-from}
+use Rattle.walks.specs.Walk.{first, second, both, Path, stay, move, Bounded}
+use Rattle.walks.proofs.Walks.{below, below-character, path-from}
 use Rattle.equal_reckoning.specs.Equal.{at, finish, cellBefore, lastCells, rowBefore, lastRows}
 use Rattle.equal_reckoning.proofs.Tests.{tells-map, tells-or, tells-and, tells-eqb, tells-meet}
 

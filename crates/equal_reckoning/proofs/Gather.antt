@@ -9,22 +9,24 @@ use lib.Bits.{bitAnd}
 use lib.Dec.{eqb, ltb}
 use lib.ListN.{length, getD, take}
 use Rattle.bases.specs.Base.{Holds, Meets}
-use Rattle.bases.specs.Tells.{Tells}
-use Rattle.bases.proofs.Plain.{lt-or-le}
+use Rattle.plain.specs.Tells.{Tells}
+use Rattle.plain.proofs.Plain.{lt-or-le}
 use Rattle.sets.specs.Set.{Exactly}
 use Rattle.sets.proofs.Exact.{exactly-as, none-exactly, both-exactly, either-exactly}
 use Rattle.shapes.specs.Shape.{Block, total, noBlock}
-use Rattle.rests.specs.Walk.{here, both, Path, move, Bounded}
-use Rattle.rests.proofs.Walks.{path-of, path-append, path-from, turn-path, text-of, below-character, ends-within}
-use Rattle.rests.proofs.Laid.{to-end}
+use Rattle.walks.specs.Walk.{here, both, Path, move, Bounded}
+use Rattle.walks.proofs.Walks.{path-of, path-append, path-from, turn-path, text-of, below-character, ends-within}
+use Rattle.walks.proofs.Laid.{to-end}
 use Rattle.pads.specs.Pad.{PadPath, Roomy, after}
 use Rattle.pads.specs.Collect.{Passes, Ends, empty, filled, Collected}
 use Rattle.pads.proofs.Paths.{path-pad, pad-path, after-on}
 use Rattle.pads.proofs.Cut.{Place}
+use Rattle.plain.proofs.Tells.{tells-so}
 use Rattle.equal_reckoning.specs.Equal.{joins, add, othersAt, othersWithin, hasLength, firstFrom, lastTo, blockTold, blocksOf}
-use Rattle.equal_reckoning.proofs.Tests.{tells-map, tells-and, tells-so, tells-eqb, tells-leb, tells-meet, Under, under-to, under-of, tells-some, if-cases}
+use Rattle.equal_reckoning.proofs.Tests.{tells-map, tells-and, tells-eqb, tells-leb, tells-meet, Under, under-to, under-of, tells-some, if-cases}
 
--- T says of each pair of positions whether one text leads both to their ends, and whether one leads there from both starts as well.
+-- T says of each pair of positions whether one text leads both to their ends, and whether one leads there from both
+-- starts as well.
 pub record Told (X Y : ℕ → Block) (U W : ℕ) (T : ℕ → ℕ → ℕ) : Type 0 where
   pub live : (i j : ℕ) → i ≤ U → j ≤ W → Tells (ltb 0 (T i j)) (Path X Y U W i j)
   pub marked : (i j : ℕ) → i ≤ U → j ≤ W → Tells (eqb (T i j) 2) (Path X Y U W i j × Path X Y i j 0 0)

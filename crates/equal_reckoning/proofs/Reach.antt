@@ -7,11 +7,11 @@ use Prim.Native.Nat.{ℕ, zero, suc, _+_, _-_, _≤_, _<_}
 use native.Mathlib.Omega.{arith}
 use lib.ListN.{getD}
 use Rattle.bases.specs.Base.{Meets}
-use Rattle.bases.specs.Tells.{Tells}
-use Rattle.bases.proofs.Plain.{lt-or-le}
+use Rattle.plain.specs.Tells.{Tells}
+use Rattle.plain.proofs.Plain.{lt-or-le}
 use Rattle.shapes.specs.Shape.{Block}
-use Rattle.rests.specs.Walk.{Move, first, second, both, Path, stay, move, Bounded}
-use Rattle.rests.proofs.Walks.{below, path-then, text-of, ends-within}
+use Rattle.walks.specs.Walk.{Move, first, second, both, Path, stay, move, Bounded}
+use Rattle.walks.proofs.Walks.{below, path-then, text-of, ends-within}
 use Rattle.equal_reckoning.specs.Equal.{at, fromIf, froms, anyIn, reach, cellAfter, firstCells, rowAfter, firstRows}
 use Rattle.equal_reckoning.proofs.Tests.{tells-map, tells-or, tells-and, tells-eqb, tells-ltb, tells-meet, Under, under-to, under-of}
 

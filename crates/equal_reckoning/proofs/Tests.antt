@@ -9,8 +9,8 @@ use lib.Dec.{eqb, ltb, leb}
 use lib.Bits.{bitAnd}
 use lib.ListN.{getD}
 use Rattle.bases.specs.Base.{Meets}
-use Rattle.bases.specs.Tells.{Tells}
-use Rattle.bases.proofs.Plain.{lt-or-le}
+use Rattle.plain.specs.Tells.{Tells}
+use Rattle.plain.proofs.Plain.{lt-or-le}
 use Rattle.bases.proofs.Sets.{meets-of, meets-not}
 use Rattle.equal_reckoning.specs.Equal.{or, and, meet, listed, some, if}
 
@@ -30,10 +30,6 @@ module _ {P Q : Type 0} where
 
 pub tells-as : {a b : Bool} {P : Type 0} → a ≡ b → Tells b P → Tells a P
 tells-as {P} e t = subst (λ (v : Bool). Tells v P) (sym e) t
-
-pub tells-so : {t : Bool} {P : Type 0} → Tells t P → P → t ≡ true
-tells-so {t = true} s p = refl
-tells-so {t = false} s p = absurd (s .not-so refl p)
 
 pub tells-eqb : (x y : ℕ) → Tells (eqb x y) (x ≡ y)
 tells-eqb x y = record { so = eqb-true x y; not-so = eqb-false x y }

@@ -7,7 +7,7 @@ use lib.Dec.{eqb, ltb, leb}
 use lib.ListN.{getD}
 use Rattle.shapes.specs.Shape.{Block, total}
 use Rattle.hulls.specs.Hull.{Outcome, none, shapes}
-use Rattle.rests.specs.Walk.{slotAt}
+use Rattle.walks.specs.Walk.{slotAt}
 
 unfoldable pub or : Bool → Bool → Bool
 or true b = true

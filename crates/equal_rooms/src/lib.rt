@@ -4,25 +4,27 @@ ghost use Prim.Native.Nat.{_≤_, _<_};
 ghost use lib.ListN.{length};
 ghost use Rattle.sets.specs.Set.{setOf};
 ghost use Rattle.shapes.specs.Lent.{Whole, shapeOf};
-ghost use Rattle.shapes.specs.Shape.{total};
-ghost use Rattle.rows.specs.Row.{layoutSize};
+ghost use Rattle.shapes.specs.Shape.{total, blockCount, mostBlocks, lineBlocks};
 ghost use Rattle.pairs.specs.Narrow.{NarrowAnswer};
 ghost use Rattle.pads.specs.But.{But};
+
+// So many blocks fit into the small room.
+const SMALL: usize = 8;
 
 // Of at most 8 blocks, x of at most 63 characters: a quarter of the room, which is cleared at each call.
 fn narrow_small(x: &[u64], y: &[u64], pad: Set, out_x: &mut [u64], out_y: &mut [u64]) -> bool
     requires { ⌜ Whole (now x) × Whole (now y) ⌝ }
-    requires { ⌜ (length (now x) ≤ 32) × (length (now y) ≤ 32) × (total (shapeOf (now x)) < 64) ⌝ }
+    requires { ⌜ (blockCount (now x) ≤ 8) × (blockCount (now y) ≤ 8) × (total (shapeOf (now x)) < 64) ⌝ }
     requires { ⌜ (length (now x) ≤ length (now «out_x»)) × (length (now y) ≤ length (now «out_y»)) ⌝ }
     ensures { λ r. ⌜ NarrowAnswer (But (setOf pad)) (now (x .entry)) (now (y .entry)) (now («out_x» .entry)) (now («out_y» .entry)) (now («out_x» .exit)) (now («out_y» .exit)) r ⌝ }
 {
-    let mut zones = [0u64; 32];
-    let mut ends = [0u64; 32];
-    let mut slots = [0u64; 32];
-    let mut mines = [0u64; 32];
-    let mut rows = [0u64; 256];
-    let mut own = [0u64; 32];
-    let mut others = [0u64; 32];
+    let mut zones = [0u64; SMALL * rows::SIZE];
+    let mut ends = [0u64; SMALL * rows::SIZE];
+    let mut slots = [0u64; SMALL * rows::SIZE];
+    let mut mines = [0u64; SMALL * rows::SIZE];
+    let mut rows = [0u64; 64 * rows::SIZE];
+    let mut own = [0u64; SMALL * rows::SIZE];
+    let mut others = [0u64; SMALL * rows::SIZE];
     equal_rows::narrow_rows(
         x,
         y,
@@ -42,17 +44,17 @@ fn narrow_small(x: &[u64], y: &[u64], pad: Set, out_x: &mut [u64], out_y: &mut [
 // Of at most 64 blocks, y of at most 32.
 fn narrow_big(x: &[u64], y: &[u64], pad: Set, out_x: &mut [u64], out_y: &mut [u64]) -> bool
     requires { ⌜ Whole (now x) × Whole (now y) ⌝ }
-    requires { ⌜ (length (now x) ≤ 256) × (length (now y) ≤ layoutSize) ⌝ }
+    requires { ⌜ (blockCount (now x) ≤ lineBlocks) × (blockCount (now y) ≤ mostBlocks) ⌝ }
     requires { ⌜ (length (now x) ≤ length (now «out_x»)) × (length (now y) ≤ length (now «out_y»)) ⌝ }
     ensures { λ r. ⌜ NarrowAnswer (But (setOf pad)) (now (x .entry)) (now (y .entry)) (now («out_x» .entry)) (now («out_y» .entry)) (now («out_x» .exit)) (now («out_y» .exit)) r ⌝ }
 {
-    let mut zones = [0u64; 128];
-    let mut ends = [0u64; 128];
-    let mut slots = [0u64; 128];
-    let mut mines = [0u64; 256];
-    let mut rows = [0u64; 1004];
-    let mut own = [0u64; 256];
-    let mut others = [0u64; 128];
+    let mut zones = [0u64; shapes::MOST * rows::SIZE];
+    let mut ends = [0u64; shapes::MOST * rows::SIZE];
+    let mut slots = [0u64; shapes::MOST * rows::SIZE];
+    let mut mines = [0u64; 2 * shapes::MOST * rows::SIZE];
+    let mut rows = [0u64; 251 * rows::SIZE];
+    let mut own = [0u64; 2 * shapes::MOST * rows::SIZE];
+    let mut others = [0u64; shapes::MOST * rows::SIZE];
     equal_rows::narrow_rows(
         x,
         y,
@@ -72,12 +74,12 @@ fn narrow_big(x: &[u64], y: &[u64], pad: Set, out_x: &mut [u64], out_y: &mut [u6
 // Narrows two shapes, x of at most 64 blocks and y of at most 32, under equality but for padding.
 pub fn narrow_but(x: &[u64], y: &[u64], pad: Set, out_x: &mut [u64], out_y: &mut [u64]) -> bool
     requires { ⌜ Whole (now x) × Whole (now y) ⌝ }
-    requires { ⌜ (length (now x) ≤ 256) × (length (now y) ≤ layoutSize) ⌝ }
+    requires { ⌜ (blockCount (now x) ≤ lineBlocks) × (blockCount (now y) ≤ mostBlocks) ⌝ }
     requires { ⌜ (length (now x) ≤ length (now «out_x»)) × (length (now y) ≤ length (now «out_y»)) ⌝ }
     ensures { λ r. ⌜ NarrowAnswer (But (setOf pad)) (now (x .entry)) (now (y .entry)) (now («out_x» .entry)) (now («out_y» .entry)) (now («out_x» .exit)) (now («out_y» .exit)) r ⌝ }
 {
-    if x.len() <= 32 {
-        if y.len() <= 32 {
+    if x.len() <= SMALL * shapes::SIZE {
+        if y.len() <= SMALL * shapes::SIZE {
             if shapes::total_upper(x) < 64 {
                 return narrow_small(x, y, pad, out_x, out_y);
             }

@@ -2,20 +2,20 @@
 use mathlib.Core.Path.{_≡_, refl, sym, ap, _∙_, subst}
 use mathlib.Core.Bool.{Bool, true, false, true≢false, false≢true}
 use mathlib.Core.List.{List}
-use Prim.Native.Nat.{ℕ, _/_, _^_, _≤_, _<_}
+use Prim.Native.Nat.{ℕ, _^_, _≤_, _<_}
 use native.Mathlib.Omega.{arith}
 use lib.ListN.{length, getD, take, replicate, length-replicate}
 use Rattle.bases.specs.Base.{Holds}
 use Rattle.sets.specs.Set.{Exactly}
 use Rattle.sets.proofs.Exact.{exactly-one, one-exactly}
-use Rattle.shapes.specs.Shape.{Block, total, noBlock}
+use Rattle.shapes.specs.Shape.{Block, total, noBlock, blockCount}
 use Rattle.shapes.specs.Lent.{Whole, blockAt, shapeOf}
-use Rattle.shapes.proofs.All.{all-at}
+use Rattle.plain.proofs.All.{all-at}
 use Rattle.shapes.proofs.Lent.{shape-length, shape-at}
 use Rattle.texts.specs.Padding.{blank, Padded}
 use Rattle.hulls.proofs.Hull.{same-rule, same-none}
-use Rattle.rests.specs.Walk.{Same}
-use Rattle.pads.specs.But.{blanks, But}
+use Rattle.walks.specs.Walk.{Same}
+use Rattle.pads.specs.But.{But}
 use Rattle.pads.specs.Pad.{PadPath, paddedAt}
 use Rattle.pads.specs.Collect.{Collected}
 use Rattle.pads.proofs.But.{but-nothing, nothing-but, but-blanks, blanks-but}
@@ -42,7 +42,7 @@ blank-long {w} n e = e ∙ ap (λ (k : ℕ). replicate k 0) (sym (ap length e �
 
 module _ {pad : ℕ} {x y : List ℕ} (wx : Whole x) (wy : Whole y) (p : Joined pad x y) where
   -- each of its blocks has some length
-  pub lengths : {quit moved : ℕ} {chars : List ℕ} → SideTold pad x y quit moved chars → SomeLength quit moved x (length x / 4)
+  pub lengths : {quit moved : ℕ} {chars : List ℕ} → SideTold pad x y quit moved chars → SomeLength quit moved x (blockCount x)
   lengths {quit} {moved} t i h =
       let l : i < length (shapeOf x) = let e = shape-length x in omega arith in
       let s = some-first pad (shapeOf x) (shapeOf y) (wx .sound) (wy .sound) p i l in (
@@ -51,10 +51,10 @@ module _ {pad : ℕ} {x y : List ℕ} (wx : Whole x) (wy : Whole y) (p : Joined 
             (some-length (padded-block pad (shapeOf x) i l) (all-at noBlock (wx .sound) i l .ordered) (t .quits) (t .moves) (s .1)),
       )
 
-  pub side-collected : {quit moved : ℕ} {chars o o′ : List ℕ} (room : length x ≤ length o) → SideTold pad x y quit moved chars → (s : ToldTo chars quit moved x (length x / 4) o o′) → (i : ℕ) → i < length (shapeOf x)
+  pub side-collected : {quit moved : ℕ} {chars o o′ : List ℕ} (room : length x ≤ length o) → SideTold pad x y quit moved chars → (s : ToldTo chars quit moved x (blockCount x) o o′) → (i : ℕ) → i < length (shapeOf x)
       → Collected (paddedAt pad (shapeOf x)) (paddedAt pad (shapeOf y)) (total (shapeOf x)) (total (shapeOf y)) (total (take i (shapeOf x))) (getD (shapeOf x) i noBlock) (getD (narrowed x o o′ (wx .blocks) room s) i noBlock)
   side-collected {quit} {moved} {chars} {o} {o′} room t s i h =
-      let small : i < length x / 4 = let e = shape-length x in omega arith in
+      let small : i < blockCount x = let e = shape-length x in omega arith in
       subst (Collected (paddedAt pad (shapeOf x)) (paddedAt pad (shapeOf y)) (total (shapeOf x)) (total (shapeOf y)) (total (take i (shapeOf x))) (getD (shapeOf x) i noBlock))
       (sym (narrowed-at x o o′ (wx .blocks) room s i small))
       (told-collected (padded-block pad (shapeOf x) i h) (all-at noBlock (wx .sound) i h .ordered) (t .gives i small) (t .quits) (t .moves)
@@ -64,7 +64,7 @@ module _ {pad : ℕ} {x y : List ℕ} (wx : Whole x) (wy : Whole y) (p : Joined 
 -- ---- both sides
 
 pub both-of : {pad : ℕ} {x y : List ℕ} → Whole x → Whole y → Joined pad x y → {ox oy ox′ oy′ own others : List ℕ} {stops takes quit moved : ℕ} → length x ≤ length ox → length y ≤ length oy
-    → SideTold pad x y stops takes own → SideTold pad y x quit moved others → ToldTo own stops takes x (length x / 4) ox ox′ → ToldTo others quit moved y (length y / 4) oy oy′
+    → SideTold pad x y stops takes own → SideTold pad y x quit moved others → ToldTo own stops takes x (blockCount x) ox ox′ → ToldTo others quit moved y (blockCount y) oy oy′
     → ((k : ℕ) → getD ox′ k 0 < 2 ^ 64) → ((k : ℕ) → getD oy′ k 0 < 2 ^ 64) → Narrows (But pad) x y ox oy ox′ oy′
 both-of {pad} {x} {y} wx wy p {ox} {oy} {ox′} {oy′} rx ry tx ty sx sy fx fy = record {
   first = narrowed x ox ox′ (wx .blocks) rx sx;

@@ -11,10 +11,10 @@ ghost use Rattle.pads.specs.But.{But};
 ghost use Rattle.pads.specs.Pad.{PadPath, paddedAt};
 ghost use Rattle.row_lay.specs.Lay.{Lay};
 ghost use Rattle.equal_forth.specs.Forth.{Pass};
-ghost use Rattle.equal_back.specs.Back.{Wide};
+ghost use Rattle.equal_back.specs.Back.{Roomed};
 
-// The second pass and both outputs, where there is a pair of fillings with one text, but for padding. `own` and `others` are room for the characters of the
-// blocks; `others` is blank.
+// The second pass and both outputs, where there is a pair of fillings with one text, but for padding. `own` and
+// `others` are room for the characters of the blocks; `others` is blank.
 fn narrow_live(
     x: &[u64],
     y: &[u64],
@@ -31,7 +31,7 @@ fn narrow_live(
     out_y: &mut [u64],
 )
     requires { ⌜ Whole (now x) × Whole (now y) ⌝ }
-    requires { ⌜ Wide (now x) (now y) (now zones) (now ends) (now slots) (now mines) (now rows) (now own) (now others) ⌝ }
+    requires { ⌜ Roomed (now x) (now y) (now zones) (now ends) (now slots) (now mines) (now rows) (now own) (now others) ⌝ }
     requires { ⌜ (length (now x) ≤ length (now «out_x»)) × (length (now y) ≤ length (now «out_y»)) ⌝ }
     requires { ⌜ Lay (shapeOf (now y)) (now zones) (now ends) (now slots) ⌝ }
     requires { ⌜ Pass (setOf pad) (now x) (now y) (now mines) (now rows) (setOf last) ⌝ }
@@ -56,7 +56,8 @@ fn narrow_live(
     row_blocks::narrow_blocks(y, others, told.quit, told.moved, out_y);
 }
 
-// Narrows two shapes with room lent for the layout of y, the rows, and two rows of each block of x and one of each of y. The padding is a set of characters.
+// Narrows two shapes with room lent for the layout of y, the rows, and two rows of each block of x and one of each of
+// y. The padding is a set of characters.
 pub fn narrow_rows(
     x: &[u64],
     y: &[u64],
@@ -72,7 +73,7 @@ pub fn narrow_rows(
     out_y: &mut [u64],
 ) -> bool
     requires { ⌜ Whole (now x) × Whole (now y) ⌝ }
-    requires { ⌜ Wide (now x) (now y) (now zones) (now ends) (now slots) (now mines) (now rows) (now own) (now others) ⌝ }
+    requires { ⌜ Roomed (now x) (now y) (now zones) (now ends) (now slots) (now mines) (now rows) (now own) (now others) ⌝ }
     requires { ⌜ (length (now x) ≤ length (now «out_x»)) × (length (now y) ≤ length (now «out_y»)) ⌝ }
     requires { ⌜ now others ≡ replicate (length (now others)) 0 ⌝ }
     ensures { λ r. ⌜ NarrowAnswer (But (setOf pad)) (now (x .entry)) (now (y .entry)) (now («out_x» .entry)) (now («out_y» .entry)) (now («out_x» .exit)) (now («out_y» .exit)) r ⌝ }

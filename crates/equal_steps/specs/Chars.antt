@@ -5,7 +5,7 @@ use mathlib.Core.List.{List}
 use Prim.Native.Nat.{ℕ}
 use lib.Bits.{bitOr}
 use Rattle.bases.specs.Base.{Holds}
-use Rattle.bases.specs.Tells.{Tells}
+use Rattle.plain.specs.Tells.{Tells}
 use Rattle.sets.specs.Set.{Exactly}
 use Rattle.shapes.specs.Lent.{blockAt}
 use Rattle.rows.specs.Row.{rowIn}

@@ -7,7 +7,7 @@ ghost use Prim.Native.Nat.{_<_, _≤_};
 ghost use lib.Bits.{bitOr};
 ghost use lib.ListN.{length};
 ghost use Rattle.bases.specs.Base.{Meets, Holds};
-ghost use Rattle.bases.specs.Tells.{Tells};
+ghost use Rattle.plain.specs.Tells.{Tells};
 ghost use Rattle.sets.specs.Set.{setOf, Exactly};
 ghost use Rattle.shapes.specs.Shape.{blockCount};
 ghost use Rattle.rows.specs.Row.{rowIn, rowCount};
@@ -106,7 +106,8 @@ pub fn inward_word(row: u64, mine: u64, waits: u64) -> u64
     row >> 1 & mine | row & waits
 }
 
-// The characters of a block that has used some positions of y, its end m among them; the blocks of y at those positions are given its base.
+// The characters of a block that has used some positions of y, its end m among them; the blocks of y at those positions
+// are given its base.
 pub fn chars(
     used: Set,
     base: Set,

@@ -2,13 +2,13 @@
 use mathlib.Core.Path.{_≡_, refl, sym, ap, ap₂, _∙_}
 use mathlib.Core.Bool.{Bool, true, false}
 use mathlib.Core.List.{List, [], _++_}
-use Prim.Native.Nat.{ℕ, zero, suc, _+_, _/_, _≤_, _<_}
+use Prim.Native.Nat.{ℕ, zero, suc, _+_, _≤_, _<_}
 use native.Mathlib.Omega.{arith}
 use lib.Dec.{leb, ltb, leb·zero, leb·suc-suc}
-use lib.ListN.{length, drop, replicate}
+use lib.ListN.{drop, replicate}
 use borrow.Author.Tests.{le-ltb}
 use Rattle.bases.specs.Base.{Empty}
-use Rattle.shapes.specs.Shape.{Block, Sound, textOf}
+use Rattle.shapes.specs.Shape.{Block, Sound, textOf, blockCount}
 use Rattle.shapes.specs.Lent.{shapeOf, blockAt}
 use Rattle.shapes.proofs.Lent.{shape-from, none-left}
 use Rattle.extreme_steps.specs.declared.Direction.{Direction}
@@ -101,16 +101,16 @@ module _ {d : Direction} {b : Block} {s : Successor} {c n : ℕ} {f : Bool} (k :
 -- ---- the blocks of a lent shape, from the last to the first
 
 module _ (d : Direction) (xs : List ℕ) where
-  pub successor-end : End ≡ successor d (drop (length xs / 4) (shapeOf xs))
+  pub successor-end : End ≡ successor d (drop (blockCount xs) (shapeOf xs))
   unfolding successor
   successor-end = sym (ap (successor d) (none-left xs))
 
-  pub text-end : textFrom d xs (length xs / 4) ≡ []
+  pub text-end : textFrom d xs (blockCount xs) ≡ []
   unfolding runs textOf
   text-end = ap (extreme d) (none-left xs)
 
   -- one step: block i, from 0, is b
-  module _ (i : ℕ) (b : Block) (here : i < length xs / 4) (at : b ≡ blockAt xs i) where
+  module _ (i : ℕ) (b : Block) (here : i < blockCount xs) (at : b ≡ blockAt xs i) where
     pub step-codes : (n : ℕ) → n ≡ codesBelow (after d b (successor d (drop (i + 1) (shapeOf xs)))) → n ≡ codesBelow (successor d (drop i (shapeOf xs)))
     unfolding successor
     step-codes n e =

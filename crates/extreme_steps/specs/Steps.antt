@@ -18,7 +18,8 @@ charOf Least b = leastOf b
 charOf Greatest b = greatestOf b
 
 -- Whether c goes first: it is smaller than the successor (for the least text), or larger (for the greatest).
--- The end is below everything; just above d lies between d and the next code, just below d between the previous code and d.
+-- The end is below everything; just above d lies between d and the next code, just below d between the previous code
+-- and d.
 abbrev pub goesFirst : Direction → ℕ → Successor → Bool
 goesFirst Least c End = false
 goesFirst Least c (Above d) = leb c d

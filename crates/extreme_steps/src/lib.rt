@@ -95,8 +95,8 @@ fn onward(d: Direction, first: bool, c: u8) -> Successor
     }
 }
 
-// What block i, from 0, of an accepted shape chooses where so many codes lie below the successor of the blocks behind it.
-// Its run goes in front of their text.
+// What block i, from 0, of an accepted shape chooses where so many codes lie below the successor of the blocks behind
+// it. Its run goes in front of their text.
 pub fn choose(d: Direction, shape: &[u64], i: usize, below: u64) -> Choice
     requires { ⌜ Accepted (now shape) ⌝ }
     requires { ⌜ i < blockCount (now shape) ⌝ }

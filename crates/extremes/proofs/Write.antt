@@ -5,7 +5,7 @@ use Prim.Native.Nat.{ℕ, zero, suc, _+_, _-_, _≤_}
 use native.Mathlib.Omega.{arith}
 use lib.ListN.{length, take, drop, replicate, length-append, length-replicate, length-take, length-drop, drop-of-length-le, take-append-drop}
 use lib.Seq.{drop-at, drop-drop, take-append-le}
-use Rattle.shapes.specs.All.{All}
+use Rattle.plain.specs.All.{All}
 use Rattle.shapes.specs.Shape.{Block, Small, textOf}
 use Rattle.shapes.specs.Lent.{shapeOf, Accepted}
 use Rattle.shapes.proofs.Fits.{filling-length}

@@ -1,5 +1,5 @@
-// Least and greatest text, by document 01's steps, in two passes from the last block: the length, then the text from its
-// end.
+// Least and greatest text, by document 01's steps, in two passes from the last block: the length, then the text from
+// its end.
 use answers::Checked;
 use answers::Refusal;
 use answers::Written;

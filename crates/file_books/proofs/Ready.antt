@@ -1,42 +1,83 @@
--- What a caller has of a book that was read: how many numbers of each output are the book's. Assumes nothing.
-use mathlib.Core.Path.{_≡_, refl}
-use mathlib.Core.List.{List, [], _∷_}
-use Prim.Native.Nat.{ℕ, _*_, _/_, _≤_}
+-- What a caller has of a book that was read: how many numbers of each output are the book's, and which. Assumes
+-- nothing.
+use mathlib.Core.Path.{_≡_, sym, ap, _∙_, subst}
+use mathlib.Core.List.{List}
+use Prim.Native.Nat.{ℕ, _*_, _≤_}
 use native.Mathlib.Omega.{arith}
-use lib.ListN.{length, take, length-take}
-use Rattle.shapes.proofs.Lent.{shape-length}
-use Rattle.rules.specs.Rule.{rulesOf}
+use lib.ListN.{length, take, drop, length-append}
+use lib.Seq.{take-at}
+use Rattle.rules.specs.Rule.{ruleSize, numbersOfAll}
+use Rattle.rules.proofs.Rules.{numbers-length}
+use Rattle.shapes.specs.Shape.{blockSize}
+use Rattle.shapes.specs.Lent.{wordsOf}
+use Rattle.shapes.proofs.Numbers.{words-length}
+use Rattle.file_lines.specs.Grammar.{InGrammar}
+use Rattle.file_lines.specs.Grammar.InGrammar.{none, more}
+use Rattle.file_lines.specs.Book.{Book, bookParts, sheetParts, bookGrammar}
+use Rattle.files.specs.Departs.{FileAccepted}
+use Rattle.file_sections.specs.Parts.{Front}
+use Rattle.rules.specs.Limits.{mostTexts, bookBlocks, mostRules}
 use Rattle.file_books.specs.declared.Sizes.{Sizes}
-use Rattle.file_books.specs.Promise.{BookRead}
+use Rattle.file_books.specs.Promise.{sizesOf, BookRead}
 
-pub rules-length : (xs : List ℕ) → length (rulesOf xs) ≡ length xs / 4
-unfolding rulesOf
-rules-length [] = refl
-rules-length (k ∷ []) = refl
-rules-length (k ∷ (a ∷ [])) = refl
-rules-length (k ∷ (a ∷ (b ∷ []))) = refl
-rules-length (k ∷ (a ∷ (b ∷ (c ∷ xs)))) = let h = rules-length xs in omega arith
+-- a book in the grammar is small
+pub record Few (z : Sizes) : Type 0 where
+  pub texts : z .texts ≤ mostTexts
+  pub blocks : z .blocks ≤ bookBlocks
+  pub rules : z .rules ≤ mostRules
 
-pub record Ready (cs bs rs : List ℕ) (z : Sizes) : Type 0 where
-  pub few-texts : z .texts ≤ 8
-  pub few-blocks : z .blocks ≤ 256
-  pub few-rules : z .rules ≤ 16
-  pub texts : z .texts ≤ length cs
-  pub blocks : z .blocks * 4 ≤ length bs
-  pub rules : z .rules * 4 ≤ length rs
+few-parts : (b : Book) → InGrammar bookGrammar (bookParts b) → Few (sizesOf b)
+unfolding bookParts sheetParts
+few-parts b (more t (more s (more r none))) = record { texts = t .few; blocks = s .few; rules = r .few }
 
-pub ready : (file cs bs rs cs′ bs′ rs′ : List ℕ) (z : Sizes) → BookRead file cs bs rs cs′ bs′ rs′ z → Ready cs′ bs′ rs′ z
-ready file cs bs rs cs′ bs′ rs′ z r =
-    let right = r .accepted .right in
-    let ft = right .few-texts in
-    let fb = right .few-blocks in
-    let fr = right .few-rules in
-    let nt = r .texts in
-    let nb = r .blocks in
-    let nr = r .rules in
-    let lt = length-take (z .texts) cs′ in
-    let lb = length-take (z .blocks * 4) bs′ in
-    let lr = length-take (z .rules * 4) rs′ in
-    let sb = shape-length (take (z .blocks * 4) bs′) in
-    let sr = rules-length (take (z .rules * 4) rs′) in
-    record { few-texts = omega arith; few-blocks = omega arith; few-rules = omega arith; texts = omega arith; blocks = omega arith; rules = omega arith }
+-- numbers at the front of an output are its first numbers
+front-taken : (xs out out′ : List ℕ) (n : ℕ) → Front xs out out′ → length xs ≡ n → take n out′ ≡ xs
+front-taken xs out out′ n f e = ap (take n) f ∙ take-at xs (drop (length xs) out) n e
+
+front-room : (xs out out′ : List ℕ) (n : ℕ) → Front xs out out′ → length xs ≡ n → n ≤ length out′
+front-room xs out out′ n f e = let l = ap length f ∙ length-append xs (drop (length xs) out) in omega arith
+
+pub record Ready (file cs bs rs : List ℕ) (z : Sizes) : Type 0 where
+  pub book : Book
+  pub accepted : FileAccepted file book
+  pub few : Few z
+  pub counts-room : z .texts ≤ length cs
+  pub blocks-room : z .blocks * blockSize ≤ length bs
+  pub rules-room : z .rules * ruleSize ≤ length rs
+  pub counts-are : take (z .texts) cs ≡ book .sheet .counts
+  pub blocks-are : take (z .blocks * blockSize) bs ≡ wordsOf (book .sheet .blocks)
+  pub rules-are : take (z .rules * ruleSize) rs ≡ numbersOfAll (book .rules)
+
+pub ready : {file cs bs rs cs′ bs′ rs′ : List ℕ} {z : Sizes} → BookRead file cs bs rs cs′ bs′ rs′ z → Ready file cs′ bs′ rs′ z
+ready {cs = cs} {bs = bs} {rs = rs} {cs′ = cs′} {bs′ = bs′} {rs′ = rs′} {z = z} r = record {
+  book = b;
+  accepted = r .accepted;
+  few = subst Few (sym (r .sizes)) (few-parts b (r .accepted .accepts .right));
+  counts-room = front-room counts cs cs′ (z .texts) (r .counts) counts-many;
+  blocks-room = front-room blocks bs bs′ (z .blocks * blockSize) (r .blocks) blocks-many;
+  rules-room = front-room rules rs rs′ (z .rules * ruleSize) (r .rules) rules-many;
+  counts-are = front-taken counts cs cs′ (z .texts) (r .counts) counts-many;
+  blocks-are = front-taken blocks bs bs′ (z .blocks * blockSize) (r .blocks) blocks-many;
+  rules-are = front-taken rules rs rs′ (z .rules * ruleSize) (r .rules) rules-many;
+}
+  where
+    b : Book
+    b = r .book
+
+    counts : List ℕ
+    counts = b .sheet .counts
+
+    blocks : List ℕ
+    blocks = wordsOf (b .sheet .blocks)
+
+    rules : List ℕ
+    rules = numbersOfAll (b .rules)
+
+    counts-many : length counts ≡ z .texts
+    counts-many = ap (λ (x : Sizes). x .texts) (sym (r .sizes))
+
+    blocks-many : length blocks ≡ z .blocks * blockSize
+    blocks-many = words-length (b .sheet .blocks) ∙ ap (λ (x : Sizes). x .blocks * blockSize) (sym (r .sizes))
+
+    rules-many : length rules ≡ z .rules * ruleSize
+    rules-many = numbers-length (b .rules) ∙ ap (λ (x : Sizes). x .rules * ruleSize) (sym (r .sizes))

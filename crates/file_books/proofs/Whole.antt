@@ -1,32 +1,83 @@
--- The sections put together: the whole book. Assumes nothing.
-use mathlib.Core.Path.{_≡_, sym, _∙_}
-use mathlib.Core.List.{List, _∷_, _++_, map}
-use Prim.Native.Nat.{ℕ, _≤_}
+-- A book from its sheet and its rules. Assumes nothing.
+use mathlib.Core.Path.{_≡_, sym, ap, _∙_, subst}
+use mathlib.Core.List.{List, [], _++_, append-nil}
+use Prim.Native.Nat.{ℕ, _+_, _≤_, _<_}
 use native.Mathlib.Omega.{arith}
-use lib.ListN.{length, drop}
-use Rattle.shapes.specs.Shape.{Block}
-use Rattle.file_numerals.specs.Digits.{decimal}
-use Rattle.rules.specs.declared.Rule.{Rule}
-use Rattle.file_lines.specs.Book.{Writable, RightBlock, RuleInGrammar, textsWord, blocksWord, rulesWord, headLine, blockLine, ruleLine, linesOf, joined, writing}
-use Rattle.file_sections.specs.Parts.{Items, SectionIs}
-use Rattle.file_tails.proofs.Whole.{joined-on}
-use Rattle.files.specs.Departs.{FileAccepted}
+use lib.ListN.{length, drop, length-append, length-drop, drop-of-length-le}
+use Rattle.rules.specs.Rule.{numbersOfAll}
+use Rattle.file_lines.specs.declared.Heading.the-variants.{Texts, Blocks, Rules}
+use Rattle.file_lines.specs.Grammar.{joined, partLines, linesOf, writing}
+use Rattle.file_lines.specs.Grammar.InGrammar.{none as no-part, more as one-part}
+use Rattle.file_lines.specs.Book.{Sheet, part, section, sheetParts, bookParts, bookGrammar, fileLimit}
+use Rattle.files.specs.Departs.{Departs}
+use Rattle.files.proofs.Departs.{part-length, after-part, after-parts, parts-append, writing-append, past-end}
+use Rattle.file_sections.specs.Parts.{SectionIs}
+use Rattle.file_sheets.specs.Sheet.{SheetIs}
+use Rattle.rules.specs.Limits.{mostTexts, mostRules}
+use Rattle.file_books.specs.Last.{lastGrammar, lastPart, LastIs}
+use Rattle.file_books.specs.Promise.{BookRead}
 
-pub book-is : (file cs : List ℕ) (bs : List Block) (rs : List Rule) (t n k m : ℕ) → SectionIs textsWord 8 Writable decimal file cs t m → Items 256 RightBlock bs n → Items 16 RuleInGrammar rs k
-    → drop m file ≡ joined (headLine blocksWord n ∷ (map blockLine bs ++ (headLine rulesWord k ∷ map ruleLine rs))) → length file ≤ 16384
-    → FileAccepted file (record { counts = cs; blocks = bs; rules = rs })
-unfolding writing linesOf
-book-is file cs bs rs t n k m s b r e h =
-    let i = s .items in
-    let tf = i .few in
-    let tc = i .count in
-    let bf = b .few in
-    let bc = b .count in
-    let rf = r .few in
-    let rc = r .count in
-    record {
-      small = h;
-      right = record { few-texts = omega arith; few-blocks = omega arith; few-rules = omega arith; counts = i .right; blocks = b .right; rules = r .right };
-      is = joined-on file (headLine textsWord t ∷ map decimal cs) (headLine blocksWord n ∷ (map blockLine bs ++ (headLine rulesWord k ∷ map ruleLine rs))) m (s .split) e
-          ∙ (λ j. joined (headLine textsWord (sym tc j) ∷ (map decimal cs ++ (headLine blocksWord (sym bc j) ∷ (map blockLine bs ++ (headLine rulesWord (sym rc j) ∷ map ruleLine rs))))));
-    }
+-- ---- the rules, and the end of the file
+
+module _ (bytes rs rs′ : List ℕ) (n m : ℕ) (s : SectionIs (section Rules mostRules) bytes rs rs′ n m) where
+  -- anything after them is a further line
+  pub trailing : m < length bytes → Departs lastGrammar bytes (n + 1 + 1)
+  trailing h =
+      let l = part-length Rules (s .items) in
+      let c = s .count in
+      let line : length (partLines Rules (s .items)) + 1 ≡ n + 1 + 1 = omega arith in
+      subst (Departs lastGrammar bytes) line
+      (after-part (section Rules mostRules) [] (part Rules (s .items)) bytes (drop m bytes) 1 (s .fits) (s .split) (past-end (drop m bytes) (let e = length-drop m bytes in omega arith)))
+
+  -- nothing after them
+  pub at-end : length bytes ≤ m → LastIs bytes rs rs′ n
+  unfolding writing linesOf numbersOfAll
+  at-end h = record {
+    rules = s .items;
+    count = s .count;
+    fits = one-part (s .fits) no-part;
+    whole = s .split ∙ ap (λ (t : List ℕ). joined lines ++ t) (drop-of-length-le bytes h) ∙ append-nil (joined lines) ∙ ap joined (sym (append-nil lines));
+    stored = s .stored;
+  }
+    where
+      lines : List (List ℕ)
+      lines = partLines Rules (s .items)
+
+-- ---- the whole book
+
+sheet-lines : (s : Sheet) → length (linesOf (sheetParts s)) ≡ length (s .counts) + length (s .blocks) + 2
+unfolding linesOf sheetParts
+sheet-lines s =
+    let a = length-append (partLines Texts (s .counts)) (partLines Blocks (s .blocks) ++ []) in
+    let b = length-append (partLines Blocks (s .blocks)) [] in
+    let t = part-length Texts (s .counts) in
+    let k = part-length Blocks (s .blocks) in
+    let e : length (partLines Texts (s .counts) ++ (partLines Blocks (s .blocks) ++ [])) ≡ length (s .counts) + length (s .blocks) + 2 = omega arith in
+    e
+
+module _ (file cs bs cs′ bs′ : List ℕ) (t n m : ℕ) (s : SheetIs mostTexts file cs bs cs′ bs′ t n m) where
+  pub book-stops : (i : ℕ) → Departs lastGrammar (drop m file) (i + 1) → Departs bookGrammar file (t + n + i + 3)
+  book-stops i d =
+      let l = sheet-lines (s .sheet) in
+      let a = s .texts-many in
+      let b = s .blocks-many in
+      let line : length (linesOf (sheetParts (s .sheet))) + (i + 1) ≡ t + n + i + 3 = omega arith in
+      subst (Departs bookGrammar file) line (after-parts lastGrammar file (drop m file) (i + 1) (s .fits) (s .split) d)
+
+  pub book-is : (rs rs′ : List ℕ) (k : ℕ) → length file ≤ fileLimit → LastIs (drop m file) rs rs′ k
+      → BookRead file cs bs rs cs′ bs′ rs′ (record { texts = t; blocks = n; rules = k })
+  unfolding bookParts
+  book-is rs rs′ k small l = record {
+    book = record { sheet = s .sheet; rules = l .rules };
+    accepted = record {
+      accepts = record {
+        small = small;
+        right = parts-append (s .fits) (l .fits);
+        is = s .split ∙ ap (λ (r : List ℕ). writing (sheetParts (s .sheet)) ++ r) (l .whole) ∙ sym (writing-append (sheetParts (s .sheet)) (lastPart (l .rules)));
+      };
+    };
+    sizes = λ i. record { texts = sym (s .texts-many) i; blocks = sym (s .blocks-many) i; rules = sym (l .count) i };
+    counts = s .counts;
+    blocks = s .blocks;
+    rules = l .stored;
+  }

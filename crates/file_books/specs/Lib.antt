@@ -1,2 +1,3 @@
 -- What reading a book file promises.
+pub mod Last
 pub mod Promise

@@ -1,31 +1,30 @@
 -- What reading a book file promises.
 use mathlib.Core.Path.{_≡_}
 use mathlib.Core.List.{List}
-use Prim.Native.Nat.{ℕ, _*_}
-use lib.ListN.{length, take, drop}
+use Prim.Native.Nat.{ℕ}
+use lib.ListN.{length}
 use Rattle.answers.specs.Told.{told}
-use Rattle.shapes.specs.Lent.{shapeOf}
+use Rattle.rules.specs.Rule.{numbersOfAll}
+use Rattle.shapes.specs.Lent.{wordsOf}
 use Rattle.file_lines.specs.Book.{Book}
+use Rattle.files.specs.Departs.{FileAccepted, FileRefused}
+use Rattle.file_sections.specs.Parts.{Front}
 use Rattle.file_books.specs.declared.Sizes.{Sizes}
 use Rattle.file_books.specs.declared.Read.{Read}
 use Rattle.file_books.specs.declared.Read.the-variants.{Book as is-book, Refused}
-use Rattle.files.specs.Departs.{FileAccepted, FileRefused}
-use Rattle.rules.specs.Rule.{ruleSize, rulesOf}
-use Rattle.shapes.specs.Shape.{blockSize}
 
--- The book that some numbers are: counts as they stand, blocks and rules as four numbers each.
-abbrev pub bookOf : List ℕ → List ℕ → List ℕ → Book
-bookOf cs bs rs = record { counts = cs; blocks = shapeOf bs; rules = rulesOf rs }
+-- How many texts, blocks and rules a book has.
+abbrev pub sizesOf : Book → Sizes
+sizesOf b = record { texts = length (b .sheet .counts); blocks = length (b .sheet .blocks); rules = length (b .rules) }
 
--- The file is the writing of the book that the first numbers of the three outputs are; the others stay.
+-- The file is the writing of a book, whose numbers stand at the front of the three outputs.
 pub record BookRead (file cs bs rs cs′ bs′ rs′ : List ℕ) (z : Sizes) : Type 0 where
-  pub accepted : FileAccepted file (bookOf (take (z .texts) cs′) (take (z .blocks * blockSize) bs′) (take (z .rules * ruleSize) rs′))
-  pub texts : length (take (z .texts) cs′) ≡ z .texts
-  pub blocks : length (shapeOf (take (z .blocks * blockSize) bs′)) ≡ z .blocks
-  pub rules : length (rulesOf (take (z .rules * ruleSize) rs′)) ≡ z .rules
-  pub counts-stay : drop (z .texts) cs′ ≡ drop (z .texts) cs
-  pub blocks-stay : drop (z .blocks * blockSize) bs′ ≡ drop (z .blocks * blockSize) bs
-  pub rules-stay : drop (z .rules * ruleSize) rs′ ≡ drop (z .rules * ruleSize) rs
+  pub book : Book
+  pub accepted : FileAccepted file book
+  pub sizes : z ≡ sizesOf book
+  pub counts : Front (book .sheet .counts) cs cs′
+  pub blocks : Front (wordsOf (book .sheet .blocks)) bs bs′
+  pub rules : Front (numbersOfAll (book .rules)) rs rs′
 
 -- After a refusal the outputs hold anything: they are the caller's own space for the book.
 abbrev pub ReadPromise : List ℕ → List ℕ → List ℕ → List ℕ → List ℕ → List ℕ → List ℕ → Read → Type 0

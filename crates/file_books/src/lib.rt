@@ -1,10 +1,15 @@
-// A book file read: its size, three sections and nothing after them.
+// A book file read: its size, a sheet and the rules, and nothing after them.
 use answers::Refusal;
-use file_sections::Item;
-use file_sections::Section;
-use file_tails::Tail;
+use file_lines::Heading;
+use file_lines::Section;
+use file_sections::Items;
+use file_sheets::SheetAt;
 ghost use Prim.Native.Nat.{_≤_};
 ghost use lib.ListN.{length};
+ghost use Rattle.file_lines.specs.declared.Heading.the-variants.{Blocks as blocks-heading, Rules as rules-heading};
+ghost use Rattle.file_lines.specs.Book.{section, roomOf};
+ghost use Rattle.rules.specs.Limits.{mostTexts, bookBlocks, mostRules};
+ghost use Rattle.file_books.specs.Last.{LastRead};
 ghost use Rattle.file_books.specs.Promise.{ReadPromise};
 
 // How many texts, blocks and rules a book has.
@@ -19,23 +24,49 @@ pub enum Read {
     Refused(Refusal),
 }
 
-// Reads a book file into numbers: its block counts, and its blocks and its rules as four numbers each.
+// The rules to the end of the file: how many, or how many lines stand before one departs.
+pub enum Last {
+    Read(usize),
+    Departs(u64),
+}
+
+// The rules, and nothing after them: anything is a further line.
+fn read_last(bytes: &[u8], rules: &mut [u64]) -> Last
+    requires { ⌜ roomOf (section rules-heading mostRules) ≤ length (now rules) ⌝ }
+    ensures { λ r. ⌜ LastRead (now (bytes .entry)) (now (rules .entry)) (now (rules .exit)) r ⌝ }
+{
+    let last = Section {
+        heading: Heading::Rules,
+        most: rules::RULES,
+    };
+    match file_sections::read_section(last, bytes, rules) {
+        Items::Departs(i) => Last::Departs(i),
+        Items::Read(n, m) => {
+            if m < bytes.len() {
+                return Last::Departs(n as u64 + 1);
+            }
+            Last::Read(n)
+        }
+    }
+}
+
+// Reads a book file into numbers: its block counts, and the numbers of its blocks and of its rules.
 pub fn read_book(file: &[u8], counts: &mut [u64], blocks: &mut [u64], rules: &mut [u64]) -> Read
-    requires { ⌜ 8 ≤ length (now counts) ⌝ }
-    requires { ⌜ 1024 ≤ length (now blocks) ⌝ }
-    requires { ⌜ 64 ≤ length (now rules) ⌝ }
+    requires { ⌜ mostTexts ≤ length (now counts) ⌝ }
+    requires { ⌜ roomOf (section blocks-heading bookBlocks) ≤ length (now blocks) ⌝ }
+    requires { ⌜ roomOf (section rules-heading mostRules) ≤ length (now rules) ⌝ }
     ensures { λ r. ⌜ ReadPromise (now (file .entry)) (now (counts .entry)) (now (blocks .entry)) (now (rules .entry)) (now (counts .exit)) (now (blocks .exit)) (now (rules .exit)) r ⌝ }
 {
-    if 16384 < file.len() {
+    if file_lines::FILE_LIMIT < file.len() {
         return Read::Refused(Refusal::Size);
     }
-    match file_sections::read_section(Item::Count, b"TEXTS ", 8, file, counts) {
-        Section::Departs(i) => Read::Refused(Refusal::Line(i + 1)),
-        Section::Read(n, m) => match file_tails::read_tail(&file[m..], blocks, rules) {
-            Tail::Departs(i) => Read::Refused(Refusal::Line(n as u64 + i + 2)),
-            Tail::Read(b, k) => Read::Book(Sizes {
-                texts: n,
-                blocks: b,
+    match file_sheets::read_sheet(rules::TEXTS, file, counts, blocks) {
+        SheetAt::Departs(i) => Read::Refused(Refusal::Line(i + 1)),
+        SheetAt::Is(texts, n, m) => match read_last(&file[m..], rules) {
+            Last::Departs(i) => Read::Refused(Refusal::Line((texts + n) as u64 + i + 3)),
+            Last::Read(k) => Read::Book(Sizes {
+                texts,
+                blocks: n,
                 rules: k,
             }),
         },

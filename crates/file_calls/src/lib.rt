@@ -3,9 +3,7 @@ use answers::Ran;
 use answers::Written;
 use file_books::Read;
 ghost use mathlib.Core.Path.{_≡_};
-ghost use Prim.Native.Nat.{_^_, _<_};
 ghost use lib.ListN.{replicate, length};
-ghost use Rattle.shapes.specs.All.{All};
 ghost use Rattle.file_runs.specs.Promise.{LentPromise, FilePromise, BookAnswer, WorkLeft};
 
 // The work space of a run.
@@ -15,8 +13,7 @@ fn new_work() -> [u8; 63001]
     [0; 63001]
 }
 
-// Runs the book of some numbers to its report. The final shapes are left in the blocks. (That the blocks are 64-bit numbers is for the
-// caller's proof.)
+// Runs the book of some numbers to its report. The final shapes are left in the blocks.
 fn report_book(
     counts: &[u64],
     blocks: &mut [u64],
@@ -26,10 +23,9 @@ fn report_book(
 ) -> Written
     ensures { λ r. ⌜ BookAnswer (now (counts .entry)) (now (blocks .entry)) (now (rules .entry)) (length (now (work .entry))) (now (report .entry)) (now (report .exit)) r ⌝ }
     ensures { λ r. ⌜ WorkLeft (now (work .entry)) (now (work .exit)) r ⌝ }
-    ensures { λ _. ⌜ All (λ x. x < 2 ^ 64) (now (blocks .entry)) ⌝ }
 {
     let room = report.len();
-    if room < 16384 {
+    if room < file_lines::FILE_LIMIT {
         return Written::Refused(file_runs::refuse_short(counts, blocks, rules, work.len(), room));
     }
     match book_calls::run_book(counts, blocks, rules, work) {
@@ -39,14 +35,15 @@ fn report_book(
     }
 }
 
-// Runs a book file, any bytes, to its report, into an output of at least 16,384 bytes, with a work buffer of at least 63,001; the report's length. Refused are
-// the file (9, 8), then its book with 4 for the work buffer, then an output too short (5); all is then as on entry.
+// Runs a book file, any bytes, to its report, into an output of at least 16,384 bytes, with a work buffer of at least
+// 63,001; the report's length. Refused are the file (9, 8), then its book with 4 for the work buffer, then an output
+// too short (5); all is then as on entry.
 pub fn run_lent(file: &[u8], report: &mut [u8], work: &mut [u8]) -> Written
     ensures { λ r. ⌜ LentPromise (now (file .entry)) (now (report .entry)) (now (work .entry)) (now (report .exit)) (now (work .exit)) r ⌝ }
 {
-    let mut counts = [0u64; 8];
-    let mut blocks = [0u64; 1024];
-    let mut rules = [0u64; 64];
+    let mut counts = [0u64; rules::TEXTS];
+    let mut blocks = [0u64; rules::BLOCKS * shapes::SIZE];
+    let mut rules = [0u64; rules::RULES * rules::SIZE];
     match file_books::read_book(file, &mut counts, &mut blocks, &mut rules) {
         Read::Refused(r) => Written::Refused(r),
         Read::Book(sizes) => {

@@ -1,21 +1,23 @@
 -- Lines taken apart: the numbers of a line are those of its parts. Assumes nothing.
-use mathlib.Core.Path.{_≡_, refl, sym, ap, _∙_}
+use mathlib.Core.Path.{_≡_, refl, sym, ap, _∙_, subst}
 use mathlib.Core.List.{List, [], _∷_, _++_}
-use Prim.Native.Nat.{ℕ, _+_, _-_, _*_, _/_, _%_, _^_, _≤_, _<_}
+use Prim.Native.Nat.{ℕ, suc, _+_, _-_, _*_, _/_, _%_, _^_, _≤_, _<_}
 use native.Mathlib.Omega.{arith}
 use lib.Dec.{lit<}
 use lib.ListN.{length, getD, take, drop, length-append, length-drop, take-append-drop}
 use lib.Seq.{take-all, length-take-le, take-at, drop-at, getD-at, take-add, drop-drop, split-at}
-use Rattle.bases.specs.Base.{baseOf}
-use Rattle.bases.proofs.Laws.{one-word, words-bound}
+use Rattle.bases.specs.Base.{Word, baseOf, wordsIn, baseWords, codes}
+use Rattle.bases.proofs.Words.{words-bound, words-count, words-small, base-back}
+use Rattle.plain.specs.All.{All}
+use Rattle.plain.specs.All.All.{none, more}
 use Rattle.rules.specs.declared.Rule.{Rule}
 use Rattle.rules.specs.Rule.{ruleWith}
 use Rattle.shapes.specs.Shape.{Block}
-use Rattle.shapes.specs.Lent.{blockOf}
-use Rattle.shapes.proofs.All.{all-map}
+use Rattle.plain.proofs.All.{all-map}
 use Rattle.file_numerals.specs.Digits.{digits, decimal}
+use Rattle.file_numerals.specs.Read.{wordDigits}
 use Rattle.file_numerals.proofs.Digits.{decimal-digits, digits-length, digits-split}
-use Rattle.file_lines.specs.Book.{RightBlock, headLine, twoNumbers, blockLine, ruleLine}
+use Rattle.file_lines.specs.Grammar.{RightBlock, baseDigits, headLine, twoNumbers, blockLine, ruleLine}
 use Rattle.file_lines.specs.Lines.{Without, NumberFirst}
 use Rattle.file_lines.proofs.Split.{parted}
 
@@ -72,53 +74,78 @@ head-rest t word n e = ap (drop (length word)) e ∙ drop-at word (decimal n) (l
 
 -- ---- a block
 
-pub block-long : (t : List ℕ) (b : Block) → t ≡ blockLine b → 33 ≤ length t
-unfolding blockLine
-block-long t b e =
-    let l = digits-length 16 32 (b .base) in
-    let f = ap length e ∙ length-append (digits 16 32 (b .base)) (32 ∷ twoNumbers (b .lower) (b .upper)) in
-    omega arith
+-- the hex digits of some words, the last word first
+pub spelt : List ℕ → List ℕ
+spelt [] = []
+spelt (w ∷ ws) = spelt ws ++ digits 16 wordDigits w
 
-pub block-blank : (t : List ℕ) (b : Block) → t ≡ blockLine b → getD t 32 0 ≡ 32
-unfolding blockLine
-block-blank t b e = ap (λ (s : List ℕ). getD s 32 0) e ∙ getD-at (digits 16 32 (b .base)) 32 (twoNumbers (b .lower) (b .upper)) 0 32 (digits-length 16 32 (b .base))
+-- a base's digits are those of its words
+pub base-digits : {ws : List ℕ} → All Word ws → digits 16 (length ws * wordDigits) (baseOf ws) ≡ spelt ws
+unfolding spelt baseOf digits
+base-digits none = refl
+base-digits (more {a = w} {l = ws} h g) =
+    let n : suc (length ws) * wordDigits ≡ length ws * wordDigits + wordDigits = omega arith in
+    ap (λ (k : ℕ). digits 16 k (baseOf ws * 2 ^ 64 + w)) n ∙ digits-split 16 (length ws * wordDigits) wordDigits (baseOf ws) w (lit< tt) h
+    ∙ ap (λ (t : List ℕ). t ++ digits 16 wordDigits w) (base-digits g)
 
-pub block-rest : (t : List ℕ) (b : Block) → t ≡ blockLine b → drop 33 t ≡ twoNumbers (b .lower) (b .upper)
-unfolding blockLine
-block-rest t b e =
-    sym (drop-drop 1 32 t) ∙ ap (drop 1) (ap (drop 32) e ∙ drop-at (digits 16 32 (b .base)) (32 ∷ twoNumbers (b .lower) (b .upper)) 32 (digits-length 16 32 (b .base)))
+-- those of a block's base
+block-words : (b : Block) → RightBlock b → digits 16 baseDigits (b .base) ≡ spelt (wordsIn baseWords (b .base))
+block-words b h =
+    ap (digits 16 baseDigits) (sym (base-back (baseWords - 1) (b .base)))
+    ∙ ap (λ (n : ℕ). digits 16 (n * wordDigits) (baseOf (wordsIn baseWords (b .base)))) (sym (words-count baseWords (b .base)))
+    ∙ base-digits (words-small (baseWords - 1) (b .base) (h .base))
 
--- a base's digits are those of its two words
-pub words-digits : (l h : ℕ) → l < 2 ^ 64 → digits 16 32 (h * 2 ^ 64 + l) ≡ digits 16 16 h ++ digits 16 16 l
-words-digits l h s = digits-split 16 16 16 h l (lit< tt) s
+module _ (t : List ℕ) (b : Block) (right : RightBlock b) (e : t ≡ blockLine b) where
+  ends : List ℕ
+  ends = 32 ∷ twoNumbers (b .lower) (b .upper)
 
-block-digits : (t : List ℕ) (b : Block) → t ≡ blockLine b → take 32 t ≡ digits 16 16 (b .base / 2 ^ 64) ++ digits 16 16 (b .base % 2 ^ 64)
-unfolding blockLine
-block-digits t b e =
-    ap (take 32) e ∙ take-at (digits 16 32 (b .base)) (32 ∷ twoNumbers (b .lower) (b .upper)) 32 (digits-length 16 32 (b .base))
-    ∙ ap (digits 16 32) (let f : b .base ≡ b .base / 2 ^ 64 * 2 ^ 64 + b .base % 2 ^ 64 = omega arith in f)
-    ∙ words-digits (b .base % 2 ^ 64) (b .base / 2 ^ 64) (omega arith)
+  front : length (digits 16 baseDigits (b .base)) ≡ baseDigits
+  front = digits-length 16 baseDigits (b .base)
 
-pub block-high : (t : List ℕ) (b : Block) → t ≡ blockLine b → take 16 t ≡ digits 16 16 (b .base / 2 ^ 64)
-block-high t b e =
-    sym (take-at (take 16 t) (take 16 (drop 16 t)) 16 (length-16 t (block-long t b e))) ∙ ap (take 16) (sym (take-add 16 16 t) ∙ block-digits t b e)
-    ∙ take-at (digits 16 16 (b .base / 2 ^ 64)) (digits 16 16 (b .base % 2 ^ 64)) 16 (digits-length 16 16 (b .base / 2 ^ 64))
-  where
-    length-16 : (t : List ℕ) → 33 ≤ length t → length (take 16 t) ≡ 16
-    length-16 t h = length-take-le 16 t (omega arith)
+  pub block-long : baseDigits < length t
+  unfolding blockLine ends
+  block-long = let l = front in let f = ap length e ∙ length-append (digits 16 baseDigits (b .base)) ends in omega arith
 
-pub block-low : (t : List ℕ) (b : Block) → t ≡ blockLine b → take 16 (drop 16 t) ≡ digits 16 16 (b .base % 2 ^ 64)
-block-low t b e =
-    let long : 16 ≤ length t = let l = block-long t b e in omega arith in
-    sym (drop-at (take 16 t) (take 16 (drop 16 t)) 16 (length-take-le 16 t long)) ∙ ap (drop 16) (sym (take-add 16 16 t) ∙ block-digits t b e)
-    ∙ drop-at (digits 16 16 (b .base / 2 ^ 64)) (digits 16 16 (b .base % 2 ^ 64)) 16 (digits-length 16 16 (b .base / 2 ^ 64))
+  pub block-blank : getD t baseDigits 0 ≡ 32
+  unfolding blockLine
+  block-blank = ap (λ (s : List ℕ). getD s baseDigits 0) e ∙ getD-at (digits 16 baseDigits (b .base)) 32 (twoNumbers (b .lower) (b .upper)) 0 baseDigits front
 
-pub block-is : (t : List ℕ) (l h a b : ℕ) → 33 ≤ length t → getD t 32 0 ≡ 32 → take 16 t ≡ digits 16 16 h → take 16 (drop 16 t) ≡ digits 16 16 l → l < 2 ^ 64
-    → drop 33 t ≡ twoNumbers a b → t ≡ blockLine (blockOf l h a b)
-unfolding blockLine baseOf
-block-is t l h a b long blank high low small two =
-    let base : h * 2 ^ 64 + l ≡ baseOf (l ∷ (h ∷ [])) = ap (λ (x : ℕ). x * 2 ^ 64 + l) (sym (one-word h)) in
-    split-at t 32 0 long ∙ (λ m. (take-add 16 16 t ∙ (λ i. high i ++ low i) ∙ sym (words-digits l h small) ∙ ap (digits 16 32) base) m ++ blank m ∷ two m)
+  pub block-rest : drop (baseDigits + 1) t ≡ twoNumbers (b .lower) (b .upper)
+  unfolding blockLine ends
+  block-rest = sym (drop-drop 1 baseDigits t) ∙ ap (drop 1) (ap (drop baseDigits) e ∙ drop-at (digits 16 baseDigits (b .base)) ends baseDigits front)
 
-pub block-right : (l h a b : ℕ) → l < 2 ^ 64 → h < 2 ^ 64 → a ≤ 65535 → b ≤ 65535 → RightBlock (blockOf l h a b)
-block-right l h a b p q r s = record { base = words-bound l h p q; lower = r; upper = s }
+  -- the two words of its base
+  digits-two : take wordDigits t ++ take wordDigits (drop wordDigits t) ≡ digits 16 wordDigits (b .base / 2 ^ 64) ++ digits 16 wordDigits (b .base % 2 ^ 64)
+  unfolding blockLine ends spelt wordsIn
+  digits-two = sym (take-add wordDigits wordDigits t) ∙ ap (take baseDigits) e ∙ take-at (digits 16 baseDigits (b .base)) ends baseDigits front ∙ block-words b right
+
+  first-long : length (take wordDigits t) ≡ wordDigits
+  first-long = length-take-le wordDigits t (let l = block-long in omega arith)
+
+  pub block-high : take wordDigits t ≡ digits 16 wordDigits (b .base / 2 ^ 64)
+  block-high =
+      sym (take-at (take wordDigits t) (take wordDigits (drop wordDigits t)) wordDigits first-long) ∙ ap (take wordDigits) digits-two
+      ∙ take-at (digits 16 wordDigits (b .base / 2 ^ 64)) (digits 16 wordDigits (b .base % 2 ^ 64)) wordDigits (digits-length 16 wordDigits (b .base / 2 ^ 64))
+
+  pub block-low : take wordDigits (drop wordDigits t) ≡ digits 16 wordDigits (b .base % 2 ^ 64)
+  block-low =
+      sym (drop-at (take wordDigits t) (take wordDigits (drop wordDigits t)) wordDigits first-long) ∙ ap (drop wordDigits) digits-two
+      ∙ drop-at (digits 16 wordDigits (b .base / 2 ^ 64)) (digits 16 wordDigits (b .base % 2 ^ 64)) wordDigits (digits-length 16 wordDigits (b .base / 2 ^ 64))
+
+-- a line of two words, a blank and two numbers is that of the block of base x
+module _ (l h : ℕ) (low : l < 2 ^ 64) (high : h < 2 ^ 64) {x : ℕ} (base : x ≡ baseOf (l ∷ (h ∷ []))) where
+  words : All Word (l ∷ (h ∷ []))
+  words = more low (more high none)
+
+  pub two-words : digits 16 wordDigits h ++ digits 16 wordDigits l ≡ digits 16 baseDigits x
+  unfolding spelt
+  two-words = sym (base-digits words) ∙ ap (digits 16 baseDigits) (sym base)
+
+  pub block-is : (t : List ℕ) (a b : ℕ) → baseDigits < length t → getD t baseDigits 0 ≡ 32 → take wordDigits t ≡ digits 16 wordDigits h
+      → take wordDigits (drop wordDigits t) ≡ digits 16 wordDigits l → drop (baseDigits + 1) t ≡ twoNumbers a b → t ≡ blockLine (record { base = x; lower = a; upper = b })
+  unfolding blockLine
+  block-is t a b long blank first second two =
+      split-at t baseDigits 0 long ∙ (λ m. (take-add wordDigits wordDigits t ∙ (λ i. first i ++ second i) ∙ two-words) m ++ blank m ∷ two m)
+
+  pub block-right : (a b : ℕ) → a ≤ 65535 → b ≤ 65535 → RightBlock (record { base = x; lower = a; upper = b })
+  block-right a b p q = record { base = subst (λ (n : ℕ). n < 2 ^ codes) (sym base) (words-bound words); lower = p; upper = q }

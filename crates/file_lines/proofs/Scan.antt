@@ -6,7 +6,7 @@ use native.Mathlib.Omega.{arith}
 use borrow.Author.Count.{below-more}
 use lib.ListN.{length, getD, take, length-take}
 use lib.Seq.{ext-getD, getD-take, length-take-le, take-all}
-use Rattle.shapes.proofs.All.{all-one-more}
+use Rattle.plain.proofs.All.{all-one-more}
 use Rattle.file_lines.specs.Lines.{Without}
 
 pub without-more : (b : ℕ) (t : List ℕ) (i : ℕ) → i < length t → (getD t i 0 ≡ b → ⊥) → Without b (take i t) → Without b (take (i + 1) t)

@@ -6,9 +6,9 @@ use native.Mathlib.Numerals.{add-one}
 use native.Mathlib.Omega.{arith}
 use lib.ListN.{take, drop}
 use lib.Seq.{split-at}
-use Rattle.shapes.specs.All.All.{none, more}
-use Rattle.shapes.proofs.All.{all-right, all-head}
-use Rattle.file_lines.specs.Lines.{Without, First, Says, SaysNone, Leads, LeadsNone}
+use Rattle.plain.specs.All.All.{none, more}
+use Rattle.plain.proofs.All.{all-right, all-head}
+use Rattle.file_lines.specs.Lines.{Without, First, Says, SaysNone, Opens, OpensNone}
 
 -- the front of a list, and the rest
 pub head-one : {A : Type 0} {a b : A} {s t : List A} → _≡_ {A = List A} (a ∷ s) (b ∷ t) → a ≡ b
@@ -39,14 +39,14 @@ none-parts b t x s w e = all-head (all-right x (b ∷ s) (subst (Without b) e w)
 
 -- what the bytes before the first b say, the bytes begin with
 module _ {X : Type 0} (b : ℕ) (Right : X → Type 0) (text : X → List ℕ) (t : List ℕ) where
-  pub leads-is : (i : ℕ) (x : X) → First b t i → Says Right text (take i t) x → Leads b Right text t x (i + 1)
+  pub leads-is : (i : ℕ) (x : X) → First b t i → Says Right text (take i t) x → Opens b Right text t x (i + 1)
   leads-is i x f s =
       record { right = s .0; within = let h = f .within in omega arith; split = first-split b t i f ∙ ap (λ (u : List ℕ). u ++ b ∷ drop (i + 1) t) (s .1) }
 
   -- they say nothing right
-  pub leads-none : ((x : X) → Right x → Without b (text x)) → (i : ℕ) → First b t i → SaysNone Right text (take i t) → LeadsNone b Right text t
+  pub leads-none : ((x : X) → Right x → Without b (text x)) → (i : ℕ) → First b t i → SaysNone Right text (take i t) → OpensNone b Right text t
   leads-none w i f s x after h e = s x h (first-parts b t i (text x) after f (w x h) e .0)
 
   -- there is no b
-  pub leads-missing : Without b t → LeadsNone b Right text t
+  pub leads-missing : Without b t → OpensNone b Right text t
   leads-missing w x after h e = none-parts b t (text x) after w e

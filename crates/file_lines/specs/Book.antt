@@ -1,82 +1,54 @@
--- Document 01, "A book and its run", and document 02, order 3: a book, and its bytes as a file.
-use mathlib.Core.List.{List, [], _∷_, _++_, map}
-use Prim.Native.Nat.{ℕ, _^_, _≤_, _<_}
-use lib.ListN.{length}
+-- Document 01, "A book and its run": a book, its parts in a file, and its grammar.
+use mathlib.Core.List.{List, [], _∷_, _++_}
+use Prim.Native.Nat.{ℕ, _*_}
 use Rattle.rules.specs.declared.Rule.{Rule}
-use Rattle.shapes.specs.All.{All}
 use Rattle.shapes.specs.Shape.{Block}
-use Rattle.file_numerals.specs.Digits.{digits, decimal}
-use Rattle.bases.specs.Base.{codes}
+use Rattle.shapes.specs.Lent.{shapeOf}
+use Rattle.rules.specs.Limits.{mostTexts, bookBlocks, mostRules}
+use Rattle.file_lines.specs.declared.Heading.{Heading}
+use Rattle.file_lines.specs.declared.Heading.the-variants.{Texts, Blocks, Rules}
+use Rattle.file_lines.specs.declared.Section.{Section}
+use Rattle.file_lines.specs.Grammar.{Item, Part, sizeOf}
 
--- A book: the block count of each text, the blocks of all texts, the rules.
-pub record Book : Type 0 where
+-- A sheet: the block count of each text, and the blocks of all texts. A book: a sheet and the rules.
+pub record Sheet : Type 0 where
   pub counts : List ℕ
   pub blocks : List Block
+
+pub record Book : Type 0 where
+  pub sheet : Sheet
   pub rules : List Rule
 
--- `TEXTS `, `BLOCKS ` and `RULES `
-abbrev pub textsWord : List ℕ
-textsWord = 84 ∷ 69 ∷ 88 ∷ 84 ∷ 83 ∷ 32 ∷ []
+-- The sheet that some numbers are: block counts, and the numbers of blocks.
+abbrev pub sheetOf : List ℕ → List ℕ → Sheet
+sheetOf counts blocks = record { counts = counts; blocks = shapeOf blocks }
 
-abbrev pub blocksWord : List ℕ
-blocksWord = 66 ∷ 76 ∷ 79 ∷ 67 ∷ 75 ∷ 83 ∷ 32 ∷ []
+-- Their parts in a file.
+abbrev pub part : (h : Heading) → List (Item h) → Part
+part h xs = record { heading = h; items = xs }
 
-abbrev pub rulesWord : List ℕ
-rulesWord = 82 ∷ 85 ∷ 76 ∷ 69 ∷ 83 ∷ 32 ∷ []
+unfoldable pub sheetParts : Sheet → List Part
+sheetParts s = part Texts (s .counts) ∷ part Blocks (s .blocks) ∷ []
 
--- A section's count stands after its word.
-unfoldable pub headLine : List ℕ → ℕ → List ℕ
-headLine word n = word ++ decimal n
+unfoldable pub bookParts : Book → List Part
+unfolding sheetParts
+bookParts b = sheetParts (b .sheet) ++ part Rules (b .rules) ∷ []
 
--- Two numbers with a single blank (32).
-unfoldable pub twoNumbers : ℕ → ℕ → List ℕ
-twoNumbers a b = decimal a ++ 32 ∷ decimal b
+-- A section, and how many numbers it may have in memory.
+abbrev pub section : Heading → ℕ → Section
+section h n = record { heading = h; most = n }
 
--- A block is 32 lowercase hex digits (code 127 leftmost), lower, upper.
-unfoldable pub blockLine : Block → List ℕ
-blockLine b = digits 16 32 (b .base) ++ 32 ∷ twoNumbers (b .lower) (b .upper)
+abbrev pub roomOf : Section → ℕ
+roomOf s = s .most * sizeOf (s .heading)
 
--- A rule is its four numbers.
-unfoldable pub ruleLine : Rule → List ℕ
-ruleLine r = decimal (r .kind) ++ 32 ∷ (decimal (r .a) ++ 32 ∷ twoNumbers (r .b) (r .c))
+-- The sections of a sheet of so many texts at most, and of a book, in their order. Texts over 8, blocks over 256 or
+-- rules over 16 depart.
+abbrev pub sheetGrammar : ℕ → List Section
+sheetGrammar texts = section Texts texts ∷ section Blocks bookBlocks ∷ []
 
--- A book's lines: three sections, each after its count.
-unfoldable pub linesOf : Book → List (List ℕ)
-linesOf b =
-    headLine textsWord (length (b .counts))
-    ∷ (map decimal (b .counts)
-    ++ (headLine blocksWord (length (b .blocks))
-    ∷ (map blockLine (b .blocks) ++ (headLine rulesWord (length (b .rules)) ∷ map ruleLine (b .rules)))))
+abbrev pub bookGrammar : List Section
+bookGrammar = sheetGrammar mostTexts ++ section Rules mostRules ∷ []
 
--- Lines end with a newline (10).
-unfoldable pub joined : List (List ℕ) → List ℕ
-joined [] = []
-joined (l ∷ ls) = l ++ 10 ∷ joined ls
-
-unfoldable pub writing : Book → List ℕ
-unfolding linesOf joined
-writing b = joined (linesOf b)
-
--- Decimals are up to 65,535. A base has only characters that there are.
-abbrev pub Writable : ℕ → Type 0
-Writable n = n ≤ 65535
-
-pub record RightBlock (b : Block) : Type 0 where
-  pub base : b .base < 2 ^ codes
-  pub lower : Writable (b .lower)
-  pub upper : Writable (b .upper)
-
-pub record RuleInGrammar (r : Rule) : Type 0 where
-  pub kind : Writable (r .kind)
-  pub a : Writable (r .a)
-  pub b : Writable (r .b)
-  pub c : Writable (r .c)
-
--- Texts over 8, blocks over 256 or rules over 16 depart.
-pub record InGrammar (b : Book) : Type 0 where
-  pub few-texts : length (b .counts) ≤ 8
-  pub few-blocks : length (b .blocks) ≤ 256
-  pub few-rules : length (b .rules) ≤ 16
-  pub counts : All Writable (b .counts)
-  pub blocks : All RightBlock (b .blocks)
-  pub rules : All RuleInGrammar (b .rules)
+-- The input limit, which is also the room that a report wants: 16,384 bytes.
+abbrev pub fileLimit : ℕ
+fileLimit = 16384

@@ -1,3 +1,4 @@
--- A book and its lines, and what the functions that read a line answer.
+-- A file's lines and grammar, a book, and what the functions that read a line answer.
+pub mod Grammar
 pub mod Book
 pub mod Lines

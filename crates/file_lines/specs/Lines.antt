@@ -6,9 +6,8 @@ use lib.ListN.{length, getD, take, drop}
 use Rattle.file_numerals.specs.Digits.{decimal}
 use Rattle.file_numerals.specs.declared.Number.{Number}
 use Rattle.file_numerals.specs.declared.Number.the-variants.{Is as is, Not as none}
-use Rattle.shapes.specs.All.{All}
-use Rattle.shapes.specs.Shape.{Block}
-use Rattle.shapes.specs.Lent.{blockOf}
+use Rattle.plain.specs.All.{All}
+use Rattle.shapes.specs.Lent.{meant}
 use Rattle.file_lines.specs.declared.Found.{Found}
 use Rattle.file_lines.specs.declared.Found.the-variants.{At, Nothing}
 use Rattle.file_lines.specs.declared.Two.{Two}
@@ -19,8 +18,7 @@ use Rattle.file_lines.specs.declared.RuleLine.{RuleLine}
 use Rattle.file_lines.specs.declared.RuleLine.the-variants.{Is as rule, Not as no-rule}
 use Rattle.file_lines.specs.declared.BlockLine.{BlockLine}
 use Rattle.file_lines.specs.declared.BlockLine.the-variants.{Is as block, Not as no-block}
-use Rattle.file_lines.specs.declared.Words.{Words}
-use Rattle.file_lines.specs.Book.{Writable, RightBlock, RuleInGrammar, twoNumbers, blockLine, ruleLine, headLine}
+use Rattle.file_lines.specs.Grammar.{Writable, RightBlock, RuleInGrammar, twoNumbers, blockLine, ruleLine, headLine}
 
 -- no byte of t is b
 abbrev pub Without : ℕ → List ℕ → Type 0
@@ -44,13 +42,13 @@ abbrev pub SaysNone : {X : Type 0} → (X → Type 0) → (X → List ℕ) → L
 SaysNone {X} Right text t = (x : X) → Right x → t ≡ text x → ⊥
 
 -- t begins with what `text` makes of x, and x is right; then comes the byte b, which ends at place m
-pub record Leads {X : Type 0} (b : ℕ) (Right : X → Type 0) (text : X → List ℕ) (t : List ℕ) (x : X) (m : ℕ) : Type 0 where
+pub record Opens {X : Type 0} (b : ℕ) (Right : X → Type 0) (text : X → List ℕ) (t : List ℕ) (x : X) (m : ℕ) : Type 0 where
   pub right : Right x
   pub within : m ≤ length t
   pub split : t ≡ text x ++ b ∷ drop m t
 
-abbrev pub LeadsNone : {X : Type 0} → ℕ → (X → Type 0) → (X → List ℕ) → List ℕ → Type 0
-LeadsNone {X} b Right text t = (x : X) (after : List ℕ) → Right x → t ≡ text x ++ b ∷ after → ⊥
+abbrev pub OpensNone : {X : Type 0} → ℕ → (X → Type 0) → (X → List ℕ) → List ℕ → Type 0
+OpensNone {X} b Right text t = (x : X) (after : List ℕ) → Right x → t ≡ text x ++ b ∷ after → ⊥
 
 abbrev pub HeadRead : List ℕ → ℕ → List ℕ → Number → Type 0
 HeadRead word most t (is n) = Says (λ (m : ℕ). m ≤ most) (headLine word) t n
@@ -58,11 +56,11 @@ HeadRead word most t none = SaysNone (λ (m : ℕ). m ≤ most) (headLine word) 
 
 -- a number and the blank after it
 abbrev pub NumberFirst : List ℕ → ℕ → ℕ → Type 0
-NumberFirst t n m = Leads 32 Writable decimal t n m
+NumberFirst t n m = Opens 32 Writable decimal t n m
 
 abbrev pub NumberRead : List ℕ → NumberAt → Type 0
 NumberRead t (number n m) = NumberFirst t n m
-NumberRead t no-number = LeadsNone 32 Writable decimal t
+NumberRead t no-number = OpensNone 32 Writable decimal t
 
 abbrev pub TwoRead : List ℕ → Two → Type 0
 TwoRead t (two a b) = Writable a × Writable b × (t ≡ twoNumbers a b)
@@ -72,10 +70,6 @@ abbrev pub RuleRead : List ℕ → RuleLine → Type 0
 RuleRead t (rule r) = Says RuleInGrammar ruleLine t r
 RuleRead t no-rule = SaysNone RuleInGrammar ruleLine t
 
--- the block of a line's numbers
-abbrev pub blockIn : Words → Block
-blockIn w = blockOf (w .low) (w .high) (w .lower) (w .upper)
-
 abbrev pub BlockRead : List ℕ → BlockLine → Type 0
-BlockRead t (block w) = Says RightBlock blockLine t (blockIn w)
+BlockRead t (block b) = Says RightBlock blockLine t (meant b)
 BlockRead t no-block = SaysNone RightBlock blockLine t

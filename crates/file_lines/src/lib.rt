@@ -1,11 +1,31 @@
 // A book file, read line by line.
 use file_numerals::Number;
 use rules::Rule;
+use shapes::Block;
 ghost use mathlib.Core.Path.{_≡_};
 ghost use Prim.Native.Nat.{_≤_};
-ghost use Rattle.bases.specs.Tells.{Tells};
+ghost use Rattle.plain.specs.Tells.{Tells};
 ghost use lib.ListN.{length, take};
 ghost use Rattle.file_lines.specs.Lines.{FoundIn, HeadRead, NumberRead, TwoRead, RuleRead, BlockRead};
+
+// What stands under a heading: block counts of texts, blocks, rules.
+pub enum Heading {
+    Texts,
+    Blocks,
+    Rules,
+}
+
+// A section of a file: its heading, and how many items there may be.
+pub struct Section {
+    pub heading: Heading,
+    pub most: usize,
+}
+
+// The input limit in bytes, and the room that a report wants.
+pub const FILE_LIMIT: usize = 16384;
+
+// How many hex digits a base is.
+pub const BASE_DIGITS: usize = 2 * file_numerals::WORD_DIGITS;
 
 // Where a byte stands first.
 pub enum Found {
@@ -30,16 +50,8 @@ pub enum RuleLine {
     Not,
 }
 
-// The numbers of a block's line: the base's two words, lower and upper.
-pub struct Words {
-    pub low: u64,
-    pub high: u64,
-    pub lower: u64,
-    pub upper: u64,
-}
-
 pub enum BlockLine {
-    Is(Words),
+    Is(Block),
     Not,
 }
 
@@ -145,24 +157,23 @@ pub fn read_rule(line: &[u8]) -> RuleLine
 pub fn read_block(line: &[u8]) -> BlockLine
     ensures { λ r. ⌜ BlockRead (now (line .entry)) r ⌝ }
 {
-    if line.len() < 33 {
+    if line.len() <= BASE_DIGITS {
         return BlockLine::Not;
     }
-    if line[32] != b' ' {
+    if line[BASE_DIGITS] != b' ' {
         return BlockLine::Not;
     }
-    let half = 16;
-    let end = 32;
-    let rest = 33;
+    let half = file_numerals::WORD_DIGITS;
+    let end = BASE_DIGITS;
+    let rest = BASE_DIGITS + 1;
     match file_numerals::read_word(&line[..half]) {
         Number::Not => BlockLine::Not,
         Number::Is(high) => match file_numerals::read_word(&line[half..end]) {
             Number::Not => BlockLine::Not,
             Number::Is(low) => match read_two(&line[rest..]) {
                 Two::Not => BlockLine::Not,
-                Two::Is(lower, upper) => BlockLine::Is(Words {
-                    low,
-                    high,
+                Two::Is(lower, upper) => BlockLine::Is(Block {
+                    base: sets::two_words(low, high),
                     lower,
                     upper,
                 }),

@@ -11,10 +11,10 @@ use lib.Arith.{digits-div, digits-mod}
 use lib.ListN.{length, getD, take, length-append}
 use lib.Seq.{take-at, getD-at}
 use borrow.Author.Tests.{lt-ltb, le-ltb}
-use Rattle.bases.proofs.Plain.{lt-or-le}
-use Rattle.shapes.specs.All.{All}
-use Rattle.shapes.specs.All.All.{none, more}
-use Rattle.shapes.proofs.All.{all-append}
+use Rattle.plain.proofs.Plain.{lt-or-le}
+use Rattle.plain.specs.All.{All}
+use Rattle.plain.specs.All.All.{none, more}
+use Rattle.plain.proofs.All.{all-append}
 use Rattle.file_numerals.specs.Digits.{glyph, digits, decimalBy, decimal}
 
 -- ---- the digits

@@ -8,8 +8,8 @@ use native.Mathlib.Numerals.{add-one}
 use lib.ListN.{length, getD, take}
 use lib.Pow.{pow-add, pow-mono}
 use lib.Seq.{take-suc, take-all}
-use Rattle.bases.proofs.Plain.{lt-or-le}
-use Rattle.shapes.proofs.All.{all-at}
+use Rattle.plain.proofs.Plain.{lt-or-le}
+use Rattle.plain.proofs.All.{all-at}
 use Rattle.file_numerals.specs.Digits.{glyph, digits, decimal}
 use Rattle.file_numerals.specs.Read.{DigitRead}
 use Rattle.file_numerals.proofs.Digits.{glyph-low, glyph-high, decimal-digit, decimal-more, decimal-some, decimal-few, decimal-below, decimal-digits, decimal-first, decimal-one, digits-more, digits-glyphs}

@@ -16,7 +16,10 @@ abbrev pub DecimalRead : List ℕ → Number → Type 0
 DecimalRead t (Is n) = (n ≤ 65535) × (t ≡ decimal n)
 DecimalRead t Not = (n : ℕ) → n ≤ 65535 → t ≡ decimal n → ⊥
 
--- t is 16 hex digits
+-- t is a word of a base: 16 hex digits
+abbrev pub wordDigits : ℕ
+wordDigits = 16
+
 abbrev pub WordRead : List ℕ → Number → Type 0
-WordRead t (Is n) = (n < 2 ^ 64) × (t ≡ digits 16 16 n)
-WordRead t Not = (n : ℕ) → t ≡ digits 16 16 n → ⊥
+WordRead t (Is n) = (n < 2 ^ 64) × (t ≡ digits 16 wordDigits n)
+WordRead t Not = (n : ℕ) → t ≡ digits 16 wordDigits n → ⊥

@@ -4,7 +4,7 @@ ghost use Prim.Native.Nat.{_+_, _≤_, _<_};
 ghost use lib.ListN.{length};
 ghost use lib.Seq.{sets};
 ghost use Rattle.file_numerals.specs.Digits.{glyph as Digits·glyph, digits, decimal as Digits·decimal};
-ghost use Rattle.file_numerals.specs.Read.{DigitRead, DecimalRead, WordRead};
+ghost use Rattle.file_numerals.specs.Read.{DigitRead, DecimalRead, WordRead, wordDigits};
 
 // What reading a number finds.
 pub enum Number {
@@ -81,14 +81,17 @@ pub fn read_decimal(part: &[u8]) -> Number
     Number::Is(v)
 }
 
-// 16 lowercase hex digits.
+// How many hex digits a word of a base is.
+pub const WORD_DIGITS: usize = 16;
+
+// A word: so many lowercase hex digits.
 pub fn read_word(part: &[u8]) -> Number
-    requires { ⌜ length (now part) ≡ 16 ⌝ }
+    requires { ⌜ length (now part) ≡ wordDigits ⌝ }
     ensures { λ r. ⌜ WordRead (now (part .entry)) r ⌝ }
 {
     let mut v: u64 = 0;
     let mut i = 0;
-    while i < 16 {
+    while i < WORD_DIGITS {
         let d = hex_digit(part[i]);
         if 15 < d {
             return Number::Not;

@@ -4,8 +4,9 @@ use mathlib.Core.List.{List, [], _∷_}
 use Prim.Native.Nat.{ℕ}
 use Rattle.file_numerals.specs.Digits.{glyph, digits, decimalBy, decimal}
 use Rattle.shapes.specs.Shape.{Block}
-use Rattle.file_lines.specs.Book.{headLine, twoNumbers, blockLine, joined}
-use Rattle.file_reports.specs.Report.{Verdict, reportOf}
+use Rattle.file_lines.specs.Grammar.{headLine, twoNumbers, blockLine, joined, partLines, linesOf, writing}
+use Rattle.file_lines.specs.Book.{sheetParts}
+use Rattle.file_reports.specs.Report.{Verdict, headOf, sheetAfter, reportOf}
 use Rattle.file_reports.specs.Report.Verdict.{stable}
 
 block : Block
@@ -13,12 +14,12 @@ block = record { base = 0x0000000c000000000000000000000000; lower = 2; upper = 2
 
 pub exampleVerdict : Verdict
 unfolding block
-exampleVerdict = stable (1 ∷ 1 ∷ []) (block ∷ block ∷ []) 2
+exampleVerdict = stable (record { counts = 1 ∷ 1 ∷ []; blocks = block ∷ block ∷ [] }) 2
 
 pub exampleReport : List ℕ
 exampleReport =
     83 ∷ 84 ∷ 65 ∷ 66 ∷ 76 ∷ 69 ∷ 32 ∷ 50 ∷ 10 ∷ 84 ∷ 69 ∷ 88 ∷ 84 ∷ 83 ∷ 32 ∷ 50 ∷ 10 ∷ 49 ∷ 10 ∷ 49 ∷ 10 ∷ 66 ∷ 76 ∷ 79 ∷ 67 ∷ 75 ∷ 83 ∷ 32 ∷ 50 ∷ 10 ∷ 48 ∷ 48 ∷ 48 ∷ 48 ∷ 48 ∷ 48 ∷ 48 ∷ 99 ∷ 48 ∷ 48 ∷ 48 ∷ 48 ∷ 48 ∷ 48 ∷ 48 ∷ 48 ∷ 48 ∷ 48 ∷ 48 ∷ 48 ∷ 48 ∷ 48 ∷ 48 ∷ 48 ∷ 48 ∷ 48 ∷ 48 ∷ 48 ∷ 48 ∷ 48 ∷ 48 ∷ 48 ∷ 32 ∷ 50 ∷ 32 ∷ 50 ∷ 10 ∷ 48 ∷ 48 ∷ 48 ∷ 48 ∷ 48 ∷ 48 ∷ 48 ∷ 99 ∷ 48 ∷ 48 ∷ 48 ∷ 48 ∷ 48 ∷ 48 ∷ 48 ∷ 48 ∷ 48 ∷ 48 ∷ 48 ∷ 48 ∷ 48 ∷ 48 ∷ 48 ∷ 48 ∷ 48 ∷ 48 ∷ 48 ∷ 48 ∷ 48 ∷ 48 ∷ 48 ∷ 48 ∷ 32 ∷ 50 ∷ 32 ∷ 50 ∷ 10 ∷ []
 
 pub example : reportOf exampleVerdict ≡ exampleReport
-unfolding exampleVerdict exampleReport reportOf joined headLine twoNumbers blockLine decimal decimalBy digits glyph
+unfolding exampleVerdict exampleReport reportOf headOf sheetAfter sheetParts writing linesOf partLines joined headLine twoNumbers blockLine decimal decimalBy digits glyph
 example = refl

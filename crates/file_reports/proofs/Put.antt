@@ -1,7 +1,7 @@
 -- Writes one after another. Assumes nothing.
 use mathlib.Core.Path.{_≡_, refl, sym, ap, _∙_, subst}
-use mathlib.Core.List.{List, [], _∷_, _++_, map, append-assoc}
-use Prim.Native.Nat.{ℕ, suc, _+_, _*_, _/_, _^_, _≤_, _<_}
+use mathlib.Core.List.{List, [], _∷_, _++_, map, append-assoc, append-nil}
+use Prim.Native.Nat.{ℕ, suc, _+_, _^_, _≤_, _<_}
 use native.Mathlib.Omega.{arith}
 use native.Mathlib.Nat.{add-zero, zero-add, add-assoc}
 use native.Mathlib.Numerals.{add-one}
@@ -9,20 +9,22 @@ use lib.ListN.{length, getD, take, drop, length-append}
 use lib.Seq.{sets, take-suc}
 use Rattle.answers.specs.Told.{Told}
 use Rattle.bases.specs.Base.{baseOf}
-use Rattle.bases.proofs.Laws.{one-word}
-use Rattle.shapes.specs.Shape.{Block}
-use Rattle.shapes.specs.All.{All}
-use Rattle.shapes.specs.Lent.{blockOf, shapeOf, blockAt}
-use Rattle.shapes.proofs.All.{all-at}
+use Rattle.shapes.specs.Shape.{Block, blockCount}
+use Rattle.plain.specs.All.{All}
+use Rattle.shapes.specs.Lent.{shapeOf, blockAt}
+use Rattle.plain.proofs.All.{all-at}
 use Rattle.shapes.proofs.Lent.{shape-at, shape-length}
 use Rattle.file_numerals.specs.Digits.{digits, decimal}
 use Rattle.file_numerals.proofs.Digits.{decimal-few}
 use Rattle.file_numerals.proofs.Stores.{sets-append, sets-start}
-use Rattle.file_lines.specs.Book.{RightBlock, textsWord, blocksWord, headLine, twoNumbers, blockLine, joined}
-use Rattle.file_lines.proofs.Read.{words-digits}
+use Rattle.file_numerals.specs.Read.{wordDigits}
+use Rattle.file_lines.specs.Grammar.{baseDigits, RightBlock, headLine, twoNumbers, blockLine, joined, wordOf, Part, partLines, linesOf, writing}
+use Rattle.file_lines.specs.declared.Heading.the-variants.{Texts, Blocks}
+use Rattle.file_lines.specs.Book.{Sheet, sheetParts, fileLimit}
+use Rattle.file_lines.proofs.Read.{two-words}
 use Rattle.file_lines.proofs.Joined.{joined-append, map-more}
-use Rattle.file_reports.specs.Report.{Verdict, Reported, reportOf, stableWord, refusedWord, refusedLine}
-use Rattle.file_reports.specs.Report.Verdict.{stable, refused}
+use Rattle.file_reports.specs.Report.{Verdict, Reported, headOf, sheetAfter, reportOf, refusedWord, refusedLine}
+use Rattle.file_reports.specs.Report.Verdict.{refused}
 use Rattle.file_reports.specs.Put.{Wrote, spaced, pairEnd}
 
 pub put-of : (out : List ℕ) (at : ℕ) (t new : List ℕ) (r : ℕ) → r ≡ at + length t → new ≡ sets out at t → Wrote out at t new r
@@ -73,11 +75,11 @@ unfolding pairEnd spaced twoNumbers
 pair-text a b = refl
 
 -- a block's line: the two words of its base, and the counts
-pub block-text : (l h a b : ℕ) → l < 2 ^ 64 → (digits 16 16 h ++ digits 16 16 l) ++ pairEnd a b ≡ joined (blockLine (blockOf l h a b) ∷ [])
-unfolding blockLine baseOf joined
-block-text l h a b s =
-    let base : h * 2 ^ 64 + l ≡ baseOf (l ∷ (h ∷ [])) = ap (λ (x : ℕ). x * 2 ^ 64 + l) (sym (one-word h)) in
-    (λ i. (sym (words-digits l h s) ∙ ap (digits 16 32) base) i ++ pair-text a b i) ∙ sym (append-assoc (digits 16 32 (baseOf (l ∷ (h ∷ [])))) (32 ∷ twoNumbers a b) (10 ∷ []))
+pub block-text : (l h : ℕ) → l < 2 ^ 64 → h < 2 ^ 64 → {x : ℕ} → x ≡ baseOf (l ∷ (h ∷ [])) → (a b : ℕ)
+    → (digits 16 wordDigits h ++ digits 16 wordDigits l) ++ pairEnd a b ≡ joined (blockLine (record { base = x; lower = a; upper = b }) ∷ [])
+unfolding blockLine joined
+block-text l h low high {x} base a b =
+    (λ i. two-words l h low high base i ++ pair-text a b i) ∙ sym (append-assoc (digits 16 baseDigits x) (32 ∷ twoNumbers a b) (10 ∷ []))
 
 -- one line more
 pub lines-more : {X : Type 0} (text : X → List ℕ) (xs : List X) (i : ℕ) (d : X) → i < length xs
@@ -88,10 +90,10 @@ lines-more text xs i d h =
 
 -- ---- blocks
 
-pub right-at : (xs : List ℕ) (i : ℕ) → i < length xs / 4 → All RightBlock (shapeOf xs) → RightBlock (blockAt xs i)
+pub right-at : (xs : List ℕ) (i : ℕ) → i < blockCount xs → All RightBlock (shapeOf xs) → RightBlock (blockAt xs i)
 right-at xs i h g = subst RightBlock (shape-at xs i (blockAt xs i) h) (all-at (blockAt xs i) g i (let e = shape-length xs in omega arith))
 
-pub block-more : (xs : List ℕ) (i : ℕ) (b : Block) → i < length xs / 4 → b ≡ blockAt xs i
+pub block-more : (xs : List ℕ) (i : ℕ) (b : Block) → i < blockCount xs → b ≡ blockAt xs i
     → joined (map blockLine (take i (shapeOf xs))) ++ joined (blockLine b ∷ []) ≡ joined (map blockLine (take (i + 1) (shapeOf xs)))
 block-more xs i b h e =
     ap (λ (c : Block). joined (map blockLine (take i (shapeOf xs))) ++ joined (blockLine c ∷ [])) (e ∙ sym (shape-at xs i b h))
@@ -103,40 +105,44 @@ pair-five a b h g = let l = pair-length a b in let x = spaced-length a in let y 
 pub pair-twenty : (a b : ℕ) → a < 2 ^ 64 → b < 2 ^ 64 → length (pairEnd a b) ≤ 43
 pair-twenty a b h g = let l = pair-length a b in let x = spaced-length a in let y = spaced-length b in let p = twenty a h in let q = twenty b g in omega arith
 
+-- ---- a sheet
+
+regroup : (a b c d : List ℕ) → ((a ++ b) ++ c) ++ d ≡ a ++ (b ++ (c ++ d))
+regroup a b c d = simp append-assoc
+
+-- the four parts of a sheet
+pub sheet-put : (s : Sheet) (t k : ℕ) (out : List ℕ) (at : ℕ) (o₁ o₂ o₃ o₄ : List ℕ) (r₁ r₂ r₃ r₄ : ℕ) → t ≡ length (s .counts) → k ≡ length (s .blocks)
+    → Wrote out at (joined (headLine (wordOf Texts) t ∷ [])) o₁ r₁ → Wrote o₁ r₁ (joined (map decimal (s .counts))) o₂ r₂
+    → Wrote o₂ r₂ (joined (headLine (wordOf Blocks) k ∷ [])) o₃ r₃ → Wrote o₃ r₃ (joined (map blockLine (s .blocks))) o₄ r₄ → Wrote out at (writing (sheetParts s)) o₄ r₄
+unfolding writing linesOf partLines sheetParts
+sheet-put s t k out at o₁ o₂ o₃ o₄ r₁ r₂ r₃ r₄ et ek p₁ p₂ p₃ p₄ =
+    let x = headLine (wordOf Texts) t ∷ [] in
+    let c = map decimal (s .counts) in
+    let y = headLine (wordOf Blocks) k ∷ [] in
+    let b = map blockLine (s .blocks) in
+    let q₂ = put-then out at (joined x) o₁ r₁ (joined c) o₂ r₂ p₁ p₂ in
+    let q₃ = put-then out at (joined x ++ joined c) o₂ r₂ (joined y) o₃ r₃ q₂ p₃ in
+    let q₄ = put-then out at ((joined x ++ joined c) ++ joined y) o₃ r₃ (joined b) o₄ r₄ q₃ p₄ in
+    put-as out at _ _ o₄ r₄
+    (regroup (joined x) (joined c) (joined y) (joined b)
+    ∙ sym (joined-append x (c ++ (y ++ b)) ∙ ap (λ (u : List ℕ). joined x ++ u) (joined-append c (y ++ b) ∙ ap (λ (u : List ℕ). joined c ++ u) (joined-append y b)))
+    ∙ (λ i. joined (headLine (wordOf Texts) (et i) ∷ (c ++ (headLine (wordOf Blocks) (ek i) ∷ sym (append-nil b) i)))))
+    q₄
+
 -- ---- whole reports
 
+-- where no sheet follows, the head is the report
+pub head-alone : (v : Verdict) → sheetAfter v ≡ [] → joined (headOf v) ≡ reportOf v
+unfolding reportOf writing linesOf joined
+head-alone v e = sym (append-nil (joined (headOf v))) ∙ ap (λ (X : List Part). joined (headOf v) ++ writing X) (sym e)
+
 pub refused-text : (t : Told) (n x y : ℕ) → n ≡ t .number → x ≡ t .text → y ≡ t .place → (refusedWord ++ decimal n) ++ pairEnd x y ≡ reportOf (refused t)
-unfolding reportOf refusedLine headLine joined
+unfolding headOf sheetAfter refusedLine headLine joined
 refused-text t n x y p q r =
     (λ i. (refusedWord ++ decimal (p i)) ++ (ap (λ (z : ℕ). pairEnd z y) q ∙ ap (pairEnd (t .text)) r ∙ pair-text (t .text) (t .place)) i)
-    ∙ sym (append-assoc (refusedWord ++ decimal (t .number)) (32 ∷ twoNumbers (t .text) (t .place)) (10 ∷ []))
+    ∙ sym (append-assoc (refusedWord ++ decimal (t .number)) (32 ∷ twoNumbers (t .text) (t .place)) (10 ∷ [])) ∙ head-alone (refused t) refl
 
-pub reported : (v : Verdict) (out new : List ℕ) (r : ℕ) → 16384 ≤ length out → r ≤ 16384 → Wrote out 0 (reportOf v) new r → Reported v out new r
+pub reported : (v : Verdict) (out new : List ℕ) (r : ℕ) → fileLimit ≤ length out → r ≤ fileLimit → Wrote out 0 (reportOf v) new r → Reported v out new r
 reported v out new r room short p =
     let count : r ≡ length (reportOf v) = p .place ∙ zero-add (length (reportOf v)) in
     record { count = count; short = short; bytes = p .stored ∙ sets-start (reportOf v) out (omega arith) ∙ ap (λ (k : ℕ). reportOf v ++ drop k out) (sym count) }
-
-regroup : (a b c d e : List ℕ) → (((a ++ b) ++ c) ++ d) ++ e ≡ a ++ (b ++ (c ++ (d ++ e)))
-regroup a b c d e = simp append-assoc
-
--- the five parts of a report of final shapes
-pub stable-put : (cs : List ℕ) (bs : List Block) (n t k : ℕ) (out o₁ o₂ o₃ o₄ o₅ : List ℕ) (r₁ r₂ r₃ r₄ r₅ : ℕ) → t ≡ length cs → k ≡ length bs
-    → Wrote out 0 (joined (headLine stableWord n ∷ [])) o₁ r₁ → Wrote o₁ r₁ (joined (headLine textsWord t ∷ [])) o₂ r₂ → Wrote o₂ r₂ (joined (map decimal cs)) o₃ r₃
-    → Wrote o₃ r₃ (joined (headLine blocksWord k ∷ [])) o₄ r₄ → Wrote o₄ r₄ (joined (map blockLine bs)) o₅ r₅ → Wrote out 0 (reportOf (stable cs bs n)) o₅ r₅
-unfolding reportOf
-stable-put cs bs n t k out o₁ o₂ o₃ o₄ o₅ r₁ r₂ r₃ r₄ r₅ et ek p₁ p₂ p₃ p₄ p₅ =
-    let x = headLine stableWord n ∷ [] in
-    let y = headLine textsWord t ∷ [] in
-    let c = map decimal cs in
-    let z = headLine blocksWord k ∷ [] in
-    let b = map blockLine bs in
-    let q₂ = put-then out 0 (joined x) o₁ r₁ (joined y) o₂ r₂ p₁ p₂ in
-    let q₃ = put-then out 0 (joined x ++ joined y) o₂ r₂ (joined c) o₃ r₃ q₂ p₃ in
-    let q₄ = put-then out 0 ((joined x ++ joined y) ++ joined c) o₃ r₃ (joined z) o₄ r₄ q₃ p₄ in
-    let q₅ = put-then out 0 (((joined x ++ joined y) ++ joined c) ++ joined z) o₄ r₄ (joined b) o₅ r₅ q₄ p₅ in
-    put-as out 0 _ _ o₅ r₅
-    (regroup (joined x) (joined y) (joined c) (joined z) (joined b)
-    ∙ sym (joined-append x (y ++ (c ++ (z ++ b)))
-    ∙ ap (λ (u : List ℕ). joined x ++ u) (joined-append y (c ++ (z ++ b)) ∙ ap (λ (u : List ℕ). joined y ++ u) (joined-append c (z ++ b) ∙ ap (λ (u : List ℕ). joined c ++ u) (joined-append z b))))
-    ∙ (λ i. joined (headLine stableWord n ∷ (headLine textsWord (et i) ∷ (map decimal cs ++ (headLine blocksWord (ek i) ∷ map blockLine bs))))))
-    q₅

@@ -1,13 +1,14 @@
--- The blocks of sound shapes can be written: what a caller of `write_stable` shows of the final shapes. Assumes nothing.
+-- The blocks of sound shapes can be written: what a caller of `write_stable` shows of the final shapes. Assumes
+-- nothing.
 use mathlib.Core.List.{List, [], _∷_}
 use Prim.Native.Nat.{ℕ, _^_, _<_}
 use native.Mathlib.Omega.{arith}
-use Rattle.shapes.specs.All.{All}
-use Rattle.shapes.specs.All.All.{none, more}
+use Rattle.plain.specs.All.{All}
+use Rattle.plain.specs.All.All.{none, more}
 use Rattle.shapes.specs.Shape.{Block, Sound, Small}
 use Rattle.shapes.specs.Lent.{shapeOf}
 use Rattle.shapes.proofs.Lent.{small-bases}
-use Rattle.file_lines.specs.Book.{RightBlock}
+use Rattle.file_lines.specs.Grammar.{RightBlock}
 
 right : (b : Block) → Small b → Sound b → RightBlock b
 right b h k = let o = k .ordered in let u = k .small in record { base = h; lower = omega arith; upper = omega arith }

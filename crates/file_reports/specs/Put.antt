@@ -1,10 +1,12 @@
--- What the inner functions of writing a report answer.
+-- What the inner functions of writing a report answer, and the room that they want.
 use mathlib.Core.Path.{_≡_}
 use mathlib.Core.List.{List, [], _∷_, _++_}
-use Prim.Native.Nat.{ℕ, _+_}
+use Prim.Native.Nat.{ℕ, _+_, _*_}
 use lib.ListN.{length}
 use lib.Seq.{sets}
 use Rattle.file_numerals.specs.Digits.{decimal}
+use Rattle.file_lines.specs.Grammar.{baseDigits, wordOf}
+use Rattle.file_lines.specs.declared.Heading.the-variants.{Texts, Blocks}
 
 -- t is stored from place `at` on, up to place r
 pub record Wrote (out : List ℕ) (at : ℕ) (t out′ : List ℕ) (r : ℕ) : Type 0 where
@@ -19,3 +21,15 @@ spaced n = 32 ∷ decimal n
 unfoldable pub pairEnd : ℕ → ℕ → List ℕ
 unfolding spaced
 pairEnd a b = (spaced a ++ spaced b) ++ 10 ∷ []
+
+-- A 64-bit number has at most 20 decimal digits; then a newline.
+abbrev pub numberRoom : ℕ
+numberRoom = 21
+
+-- A block's digits, two numbers of at most 5 digits, each after a blank, and a newline.
+abbrev pub blockRoom : ℕ
+blockRoom = baseDigits + 13
+
+-- A sheet of t texts and b blocks.
+abbrev pub sheetRoom : ℕ → ℕ → ℕ
+sheetRoom t b = length (wordOf Texts) + numberRoom + t * numberRoom + (length (wordOf Blocks) + numberRoom + b * blockRoom)

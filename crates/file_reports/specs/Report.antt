@@ -1,16 +1,16 @@
 -- Document 01, "A book and its run": the report that the program prints.
 use mathlib.Core.Path.{_≡_}
-use mathlib.Core.List.{List, [], _∷_, _++_, map}
+use mathlib.Core.List.{List, [], _∷_, _++_}
 use Prim.Native.Nat.{ℕ, _≤_}
 use lib.ListN.{length, drop}
 use Rattle.answers.specs.Told.{Told}
-use Rattle.shapes.specs.Shape.{Block}
-use Rattle.file_numerals.specs.Digits.{decimal}
-use Rattle.file_lines.specs.Book.{textsWord, blocksWord, headLine, twoNumbers, blockLine, joined}
+use Rattle.file_lines.specs.Grammar.{headLine, twoNumbers, joined, Part, writing}
+use Rattle.file_lines.specs.Book.{Sheet, sheetParts, fileLimit}
 
--- How a book ends: with the final shapes and the applications made, in none with the applications made, or refused.
+-- How a book ends: with the sheet of the final shapes and the applications made, in none with the applications made, or
+-- refused.
 pub data Verdict : Type 0 where
-  stable : List ℕ → List Block → ℕ → Verdict
+  stable : Sheet → ℕ → Verdict
   none : ℕ → Verdict
   refused : Told → Verdict
 
@@ -28,17 +28,23 @@ refusedWord = 82 ∷ 69 ∷ 70 ∷ 85 ∷ 83 ∷ 69 ∷ 68 ∷ 32 ∷ []
 unfoldable pub refusedLine : Told → List ℕ
 refusedLine t = headLine refusedWord (t .number) ++ 32 ∷ twoNumbers (t .text) (t .place)
 
--- STABLE with the count and the sections TEXTS and BLOCKS; else NONE with the count, or REFUSED with its three numbers, alone.
+-- The head of a report: STABLE or NONE with the count, or REFUSED with its three numbers.
+unfoldable pub headOf : Verdict → List (List ℕ)
+headOf (stable s n) = headLine stableWord n ∷ []
+headOf (none n) = headLine noneWord n ∷ []
+headOf (refused t) = refusedLine t ∷ []
+
+-- After STABLE the sections TEXTS and BLOCKS, as a file has them; else the head stands alone.
+unfoldable pub sheetAfter : Verdict → List Part
+sheetAfter (stable s n) = sheetParts s
+sheetAfter (none n) = []
+sheetAfter (refused t) = []
+
 unfoldable pub reportOf : Verdict → List ℕ
-reportOf (stable cs bs n) =
-    joined
-    (headLine stableWord n
-    ∷ (headLine textsWord (length cs) ∷ (map decimal cs ++ (headLine blocksWord (length bs) ∷ map blockLine bs))))
-reportOf (none n) = joined (headLine noneWord n ∷ [])
-reportOf (refused t) = joined (refusedLine t ∷ [])
+reportOf v = joined (headOf v) ++ writing (sheetAfter v)
 
 -- The report stands at the start of the output, of length n and at most 16,384 bytes; the rest of the output stays.
 pub record Reported (v : Verdict) (out out′ : List ℕ) (n : ℕ) : Type 0 where
   pub count : n ≡ length (reportOf v)
-  pub short : n ≤ 16384
+  pub short : n ≤ fileLimit
   pub bytes : out′ ≡ reportOf v ++ drop n out

@@ -1,28 +1,29 @@
--- For any one file, output and work buffer, two permitted outcomes of running the file are equal: the answer, and every byte of the output and the work buffer.
+-- For any one file, output and work buffer, two permitted outcomes of running the file are equal: the answer, and every
+-- byte of the output and the work buffer.
 -- Assumes nothing.
 use mathlib.Core.Path.{_≡_, sym, ap, _∙_, subst}
 use mathlib.Core.List.{List, _++_}
 use Prim.Native.Nat.{ℕ, _≤_}
-use native.Mathlib.Omega.{arith}
 use lib.ListN.{length, drop}
 use Rattle.answers.specs.Told.{Told}
+use Rattle.answers.specs.Turns.{Turn, here, later, AllGood, inTurn}
 use Rattle.answers.proofs.Told.{told-one}
+use Rattle.answers.proofs.Turns.{OneOf, need-one, in-turn-one}
 use Rattle.answers.specs.declared.Written.{Written}
 use Rattle.answers.specs.declared.Written.the-variants.{Text, Refused}
 use Rattle.shapes.specs.Lent.{wordsOf}
 use Rattle.books.specs.Refused.{BookAccepted}
-use Rattle.books.proofs.Refused.{book-one, book-not}
-use Rattle.file_lines.specs.Book.{Book}
+use Rattle.books.proofs.Refused.{of-book}
+use Rattle.file_lines.specs.Book.{Book, fileLimit}
 use Rattle.files.specs.Departs.{FileAccepted}
-use Rattle.files.proofs.Unique.{refused-one, not-both}
+use Rattle.files.proofs.Unique.{accepted-one, refused-one, not-both}
 use Rattle.file_reports.specs.Report.{Verdict, reportOf, Reported}
 use Rattle.file_reports.specs.Report.Verdict.{refused}
 use Rattle.rules.specs.Rule.{numbersOfAll}
 use Rattle.file_runs.specs.Ends.{FileEnds}
 use Rattle.file_runs.specs.Ends.FileEnds.{no-book as ends-no-book, wrong-book as ends-wrong-book, of-book as ends-of-book}
-use Rattle.file_runs.specs.Promise.{Report, ReportRefused, ReportWritten, RunRefused, RunWritten, FileAnswer, WorkLeft, LentPromise, FilePromise}
-use Rattle.file_runs.specs.Promise.ReportRefused.{wrong, short}
-use Rattle.file_runs.specs.Promise.RunRefused.{no-book, of-book}
+use Rattle.file_runs.specs.Promise.{Report, reportTurns, ReportWritten, ItsBook, ofItsBook, ofFile, ofReport, runTurns, RunRefused, RunWritten, FileAnswer, WorkLeft, LentPromise, FilePromise}
+use Rattle.file_runs.specs.Promise.ItsBook.{its-book}
 use Rattle.file_runs.proofs.Ends.{book-ends-one, same-book, file-ends-one}
 use Rattle.file_runs.proofs.Work.{own-work}
 
@@ -41,33 +42,38 @@ report-one {out = out} {b = b} {n = n} one p q =
 
 -- ---- a book
 
--- an accepted book with room for its report is not refused
-book-run-not : {counts blocks rules : List ℕ} {work room : ℕ} {t : Told} → BookAccepted counts blocks rules work → 16384 ≤ room
-    → ReportRefused counts blocks rules work room t → ⊥
-book-run-not a h (wrong p) = book-not p a
-book-run-not a h (short b g e) = omega arith
-
-book-run-one : {counts blocks rules : List ℕ} {work room : ℕ} {t u : Told}
-    → ReportRefused counts blocks rules work room t → ReportRefused counts blocks rules work room u → t ≡ u
-book-run-one (wrong p) (wrong q) = book-one p q
-book-run-one (wrong p) (short a h e) = absurd (book-not p a)
-book-run-one (short a h e) (wrong q) = absurd (book-not q a)
-book-run-one (short a h e) (short b g f) = e ∙ sym f
+of-report : (work room : ℕ) (b : Book) → OneOf (ofReport work room b)
+of-report work room b =
+    in-turn-one (reportTurns (b .sheet .counts) (wordsOf (b .sheet .blocks)) (numbersOfAll (b .rules)) work room) (of-book, (need-one, tt)) (λ (a, h). (a, (h, tt)))
 
 -- ---- a file
 
+of-file : {file : List ℕ} → OneOf (ofFile file)
+of-file {file} = record { one = λ p q. refused-one file _ _ p q; not = λ p a. not-both file _ _ (a .1) p }
+
+-- a file is the writing of one book
+of-its-book : (file : List ℕ) (turn : Book → Turn) → ((b : Book) → OneOf (turn b)) → OneOf (ofItsBook file turn)
+of-its-book file turn each = record { one = λ {t} {u} p q. same t u p q; not = λ {t} p g. none t p g }
+  where
+    same : (t u : Told) → ItsBook file (λ b. turn b .due t) → ItsBook file (λ b. turn b .due u) → t ≡ u
+    same t u (its-book a p) (its-book d q) = each _ .one p (subst (λ (b : Book). turn b .due u) (accepted-one file _ _ d a) q)
+
+    none : (t : Told) → ItsBook file (λ b. turn b .due t) → ItsBook file (λ b. turn b .good) → ⊥
+    none t (its-book a p) (its-book d g) = each _ .not p (subst (λ (b : Book). turn b .good) (accepted-one file _ _ d a) g)
+
+of-run : {file : List ℕ} {work room : ℕ} → OneOf (inTurn (ItsBook file (λ b. ofReport work room b .good)) (runTurns file work room))
+of-run {file} {work} {room} = in-turn-one (runTurns file work room) (of-file, (of-its-book file (ofReport work room) (of-report work room), tt)) all
+  where
+    all : ItsBook file (λ b. ofReport work room b .good) → AllGood (runTurns file work room)
+    all (its-book {b = b} a g) = ((b, a), (its-book a g, tt))
+
 -- the file of an accepted book, with room for the report, is not refused
 pub run-file-not : {file : List ℕ} {b : Book} {work room : ℕ} {t : Told} → FileAccepted file b
-    → BookAccepted (b .counts) (wordsOf (b .blocks)) (numbersOfAll (b .rules)) work → 16384 ≤ room → RunRefused file work room t → ⊥
-run-file-not {file = file} a g h (no-book p) = not-both file _ _ a p
-run-file-not {work = work} {room = room} {t = t} a g h (of-book d p) = book-run-not g h (same-book (λ c w r. ReportRefused c w r work room t) a d p)
+    → BookAccepted (b .sheet .counts) (wordsOf (b .sheet .blocks)) (numbersOfAll (b .rules)) work → fileLimit ≤ room → RunRefused file work room t → ⊥
+run-file-not a g h p = of-run .not p (its-book a (g, h))
 
 pub run-refused-one : {file : List ℕ} {work room : ℕ} {t u : Told} → RunRefused file work room t → RunRefused file work room u → t ≡ u
-run-refused-one {file = file} (no-book p) (no-book q) = refused-one file _ _ p q
-run-refused-one {file = file} (no-book p) (of-book a q) = absurd (not-both file _ _ a p)
-run-refused-one {file = file} (of-book a p) (no-book q) = absurd (not-both file _ _ a q)
-run-refused-one {work = work} {room = room} {u = u} (of-book a p) (of-book d q) =
-    book-run-one p (same-book (λ c w r. ReportRefused c w r work room u) a d q)
+run-refused-one p q = of-run .one p q
 
 run-written-one : {file : List ℕ} {work : ℕ} {out b c : List ℕ} {n m : ℕ} → RunWritten file work out b n → RunWritten file work out c m → (n ≡ m) × (b ≡ c)
 run-written-one {work = work} {out = out} {c = c} {m = m} p q =
@@ -103,12 +109,12 @@ text-report p =
     record { verdict = r .verdict; due = ends-of-book (p .accepted) (own-work (p .written .accepted)) (r .due); reported = r .reported }
 
 -- as it is written behind the call's refusal, which left the output as on entry
-refused-ends : {file : List ℕ} {room : ℕ} {t : Told} → 16384 ≤ room → RunRefused file 63001 room t → FileEnds file (refused t)
-refused-ends h (no-book p) = ends-no-book p
-refused-ends h (of-book a (wrong p)) = ends-wrong-book a p
-refused-ends h (of-book a (short d g e)) = absurd (omega arith)
+refused-ends : {file : List ℕ} {room : ℕ} {t : Told} → fileLimit ≤ room → RunRefused file 63001 room t → FileEnds file (refused t)
+refused-ends h (here p) = ends-no-book p
+refused-ends h (later _ (here (its-book a (here p)))) = ends-wrong-book a p
+refused-ends h (later _ (here (its-book a (later d (here g))))) = absurd (g .lacking h)
 
-pub refused-report : {file out kept out′ : List ℕ} {t : Told} {n : ℕ} → 16384 ≤ length out → RunRefused file 63001 (length out) t → kept ≡ out
+pub refused-report : {file out kept out′ : List ℕ} {t : Told} {n : ℕ} → fileLimit ≤ length out → RunRefused file 63001 (length out) t → kept ≡ out
     → Reported (refused t) kept out′ n → Report (FileEnds file) out out′ n
 refused-report {out′ = out′} {t = t} {n = n} h p e w =
     record { verdict = refused t; due = refused-ends h p; reported = subst (λ (o : List ℕ). Reported (refused t) o out′ n) e w }

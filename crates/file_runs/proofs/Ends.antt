@@ -1,16 +1,16 @@
 -- A file ends in one way, and stable shapes of a sound book are sound. Assumes nothing.
-use mathlib.Core.Path.{_≡_, refl, sym, ap, ap₂, _∙_, subst, subst₂}
+use mathlib.Core.Path.{_≡_, sym, ap, _∙_, subst, subst₂}
 use mathlib.Core.Bool.{Bool}
-use mathlib.Core.List.{List, [], _∷_}
-use Prim.Native.Nat.{ℕ, _*_, _/_, _%_, _^_, _≤_, _<_}
+use mathlib.Core.List.{List}
+use Prim.Native.Nat.{ℕ, _*_, _^_, _≤_, _<_}
 use native.Mathlib.Omega.{arith}
 use lib.ListN.{length, take}
-use lib.Seq.{length-take-le}
-use Rattle.shapes.specs.All.{All}
-use Rattle.shapes.specs.Shape.{Block, Sound}
+use Rattle.plain.specs.All.{All}
+use Rattle.shapes.specs.Shape.{Block, Sound, blockSize, blockCount}
 use Rattle.shapes.specs.Lent.{shapeOf, wordsOf}
-use Rattle.shapes.proofs.Numbers.{shape-words, words-shape}
-use Rattle.answers.specs.Told.{told}
+use Rattle.shapes.proofs.Numbers.{shape-words}
+use Rattle.answers.specs.Told.{Told, told}
+use Rattle.answers.specs.Turns.{here, later}
 use Rattle.answers.specs.declared.Ran.{Ran}
 use Rattle.answers.specs.declared.Ran.the-variants.{Stable as is-stable, None as is-none, Refused as is-refused}
 use Rattle.answers.specs.declared.Written.{Written}
@@ -24,32 +24,23 @@ use Rattle.book_runs.specs.Rounds.Rounds.{stops, keeps, changes, round, rests}
 use Rattle.book_steps.proofs.Standing.{standing-first, few-blocks, blocks-sound}
 use Rattle.books.proofs.Refused.{book-one, book-not}
 use Rattle.book_runs.proofs.Rounds.{walk-one}
-use Rattle.book_runs.proofs.Determined.{same-shapes, not-none}
-use Rattle.file_lines.specs.Book.{Book, RightBlock}
+use Rattle.hulls.proofs.Hull.{same-shapes, not-none}
+use Rattle.file_lines.specs.Grammar.{RightBlock}
+use Rattle.file_lines.specs.Book.{Book, sheetOf}
 use Rattle.file_books.specs.declared.Sizes.{Sizes}
 use Rattle.files.specs.Departs.{FileAccepted}
-use Rattle.file_books.specs.Promise.{BookRead}
-use Rattle.file_books.proofs.Ready.{ready}
+use Rattle.file_books.proofs.Ready.{Ready}
 use Rattle.files.proofs.Unique.{accepted-one, refused-one, not-both}
 use Rattle.file_reports.proofs.Ready.{right-of-sound}
 use Rattle.file_reports.specs.Report.{Verdict}
 use Rattle.file_reports.specs.Report.Verdict.{stable, none as in-none, refused}
-use Rattle.rules.specs.Rule.{rulesOf, numbersOfAll}
+use Rattle.rules.specs.Rule.{ruleSize, numbersOfAll}
+use Rattle.rules.specs.Limits.{bookBlocks}
 use Rattle.file_runs.specs.Ends.{BookEnds, FileEnds}
 use Rattle.file_runs.specs.Ends.BookEnds.{rests as ends-rest, fails}
 use Rattle.file_runs.specs.Ends.FileEnds.{no-book, wrong-book, of-book}
-use Rattle.file_runs.specs.Promise.{BookAnswer, FileAnswer}
-use Rattle.file_runs.specs.Promise.RunRefused.{of-book as refused-book}
-
--- ---- the numbers of rules, and the rules of some numbers
-
-pub numbers-rules : (xs : List ℕ) → length xs % 4 ≡ 0 → numbersOfAll (rulesOf xs) ≡ xs
-unfolding numbersOfAll rulesOf
-numbers-rules [] e = refl
-numbers-rules (a ∷ []) e = absurd (let h : _≡_ {A = ℕ} 1 0 = e in omega arith)
-numbers-rules (a ∷ (b ∷ [])) e = absurd (let h : _≡_ {A = ℕ} 2 0 = e in omega arith)
-numbers-rules (a ∷ (b ∷ (c ∷ []))) e = absurd (let h : _≡_ {A = ℕ} 3 0 = e in omega arith)
-numbers-rules (a ∷ (b ∷ (c ∷ (d ∷ xs)))) e = ap (λ (l : List ℕ). a ∷ (b ∷ (c ∷ (d ∷ l)))) (numbers-rules xs (omega arith))
+use Rattle.file_runs.specs.Promise.{ReportRefused, BookAnswer, RunRefused, FileAnswer}
+use Rattle.file_runs.specs.Promise.ItsBook.{its-book}
 
 -- ---- a run keeps soundness
 
@@ -72,16 +63,16 @@ final-sound w a = sound-end w a
 -- ---- one end
 
 pub book-ends-one : {counts blocks rules : List ℕ} {v w : Verdict} → BookEnds counts blocks rules v → BookEnds counts blocks rules w → v ≡ w
-book-ends-one {counts = counts} (ends-rest p) (ends-rest q) = let one = walk-one p q in ap₂ (stable counts) (same-shapes (one .0)) (one .1)
+book-ends-one {counts = counts} (ends-rest p) (ends-rest q) = let one = walk-one p q in λ i. stable (record { counts = counts; blocks = same-shapes (one .0) i }) (one .1 i)
 book-ends-one (ends-rest p) (fails q) = absurd (not-none (sym (walk-one p q .0)))
 book-ends-one (fails p) (ends-rest q) = absurd (not-none (walk-one p q .0))
 book-ends-one (fails p) (fails q) = ap in-none (walk-one p q .1)
 
 -- a file is the writing of one book, so what holds of the numbers of one holds of those of the other
 pub same-book : {file : List ℕ} {b c : Book} (P : List ℕ → List ℕ → List ℕ → Type 0) → FileAccepted file b → FileAccepted file c
-    → P (c .counts) (wordsOf (c .blocks)) (numbersOfAll (c .rules)) → P (b .counts) (wordsOf (b .blocks)) (numbersOfAll (b .rules))
+    → P (c .sheet .counts) (wordsOf (c .sheet .blocks)) (numbersOfAll (c .rules)) → P (b .sheet .counts) (wordsOf (b .sheet .blocks)) (numbersOfAll (b .rules))
 same-book {file = file} P a d p =
-    subst (λ (x : Book). P (x .counts) (wordsOf (x .blocks)) (numbersOfAll (x .rules))) (sym (accepted-one file _ _ a d)) p
+    subst (λ (x : Book). P (x .sheet .counts) (wordsOf (x .sheet .blocks)) (numbersOfAll (x .rules))) (sym (accepted-one file _ _ a d)) p
 
 pub file-ends-one : {file : List ℕ} {v w : Verdict} → FileEnds file v → FileEnds file w → v ≡ w
 file-ends-one {file = file} (no-book p) (no-book q) = ap refused (refused-one file _ _ p q)
@@ -94,7 +85,9 @@ file-ends-one {file = file} (of-book a g p) (no-book q) = absurd (not-both file 
 file-ends-one (of-book a g p) (wrong-book {t = t} d q) = absurd (book-not (same-book (λ c w r. BookRefused c w r 63001 t) a d q) g)
 file-ends-one {w = v} (of-book a g p) (of-book d h q) = book-ends-one p (same-book (λ c w r. BookEnds c w r v) a d q)
 
--- ---- what the run of a book's numbers comes to; blocks′ and work′ are what it leaves in the blocks and in the work buffer
+-- ---- what the run of a book's numbers comes to
+
+-- (blocks′ and work′ are what it leaves in the blocks and in the work buffer.)
 
 -- the final shapes can be written, if their numbers fit
 abbrev Writable : List ℕ → Type 0
@@ -105,7 +98,7 @@ ComesTo counts blocks rules work blocks′ work′ (is-refused r) = BookRefused 
 ComesTo counts blocks rules work blocks′ work′ (is-none m) =
     BookAccepted counts blocks rules (length work) × BookEnds counts blocks rules (in-none m) × Cleared work work′
 ComesTo counts blocks rules work blocks′ work′ (is-stable m) =
-    BookAccepted counts blocks rules (length work) × BookEnds counts blocks rules (stable counts (shapeOf blocks′) m) × Cleared work work′ × Writable blocks′
+    BookAccepted counts blocks rules (length work) × BookEnds counts blocks rules (stable (sheetOf counts blocks′) m) × Cleared work work′ × Writable blocks′
 
 pub comes-to : (counts blocks rules work blocks′ work′ : List ℕ) (r : Ran) → RunPromise counts blocks rules work blocks′ work′ r
     → ComesTo counts blocks rules work blocks′ work′ r
@@ -118,26 +111,24 @@ comes-to counts blocks rules work blocks′ work′ (is-stable m) p =
     (p .0 .accepted, ends-rest run, p .1, λ small. right-of-sound blocks′ small (subst (All Sound) same sound))
 
 -- an accepted book has at most 256 blocks
-pub few-numbers : (counts blocks rules : List ℕ) (work : ℕ) → BookAccepted counts blocks rules work → length blocks / 4 ≤ 256
+pub few-numbers : (counts blocks rules : List ℕ) (work : ℕ) → BookAccepted counts blocks rules work → blockCount blocks ≤ bookBlocks
 few-numbers counts blocks rules work a = let e = a .counted .whole-blocks in let h = few-blocks counts (a .counted .each) (a .counted .few-texts) in omega arith
 
 -- ---- what the run of the numbers that a file was read into promises of the file
 
+-- the refusal of the book is that of its file
+pub refused-book : {file : List ℕ} {b : Book} {work room : ℕ} {t : Told} → FileAccepted file b
+    → ReportRefused (b .sheet .counts) (wordsOf (b .sheet .blocks)) (numbersOfAll (b .rules)) work room t → RunRefused file work room t
+refused-book {b = b} a p = later (b, a) (here (its-book a p))
+
 of-accepted : (file : List ℕ) (work : ℕ) (out out′ : List ℕ) (b : Book) (r : Written) → FileAccepted file b
-    → BookAnswer (b .counts) (wordsOf (b .blocks)) (numbersOfAll (b .rules)) work out out′ r → FileAnswer file work out out′ r
+    → BookAnswer (b .sheet .counts) (wordsOf (b .sheet .blocks)) (numbersOfAll (b .rules)) work out out′ r → FileAnswer file work out out′ r
 of-accepted file work out out′ b (Text n) a p = record { book = b; accepted = a; written = p }
 of-accepted file work out out′ b (Refused s) a p = (refused-book a (p .0), p .1)
 
-pub file-of : (file cs bs rs cs′ bs′ rs′ : List ℕ) (work : ℕ) (out out′ : List ℕ) (z : Sizes) (r : Written) → BookRead file cs bs rs cs′ bs′ rs′ z
-    → All (λ (x : ℕ). x < 2 ^ 64) (take (z .blocks * 4) bs′)
-    → BookAnswer (take (z .texts) cs′) (take (z .blocks * 4) bs′) (take (z .rules * 4) rs′) work out out′ r → FileAnswer file work out out′ r
-file-of file cs bs rs cs′ bs′ rs′ work out out′ z r read small p =
-    let room = ready file cs bs rs cs′ bs′ rs′ z read in
-    let nb = length-take-le (z .blocks * 4) bs′ (room .blocks) in
-    let nr = length-take-le (z .rules * 4) rs′ (room .rules) in
-    let b = take (z .blocks * 4) bs′ in
-    let t = take (z .rules * 4) rs′ in
-    let words : wordsOf (shapeOf b) ≡ b = words-shape b (omega arith) small in
-    let numbers : numbersOfAll (rulesOf t) ≡ t = numbers-rules t (omega arith) in
-    of-accepted file work out out′ _ r (read .accepted)
-    (subst₂ (λ (x y : List ℕ). BookAnswer (take (z .texts) cs′) x y work out out′ r) (sym words) (sym numbers) p)
+pub file-of : (file cs bs rs : List ℕ) (work : ℕ) (out out′ : List ℕ) (z : Sizes) (r : Written) → Ready file cs bs rs z
+    → BookAnswer (take (z .texts) cs) (take (z .blocks * blockSize) bs) (take (z .rules * ruleSize) rs) work out out′ r → FileAnswer file work out out′ r
+file-of file cs bs rs work out out′ z r d p =
+    of-accepted file work out out′ (d .book) r (d .accepted)
+    (subst (λ (x : List ℕ). BookAnswer x (wordsOf (d .book .sheet .blocks)) (numbersOfAll (d .book .rules)) work out out′ r) (d .counts-are)
+    (subst₂ (λ (x y : List ℕ). BookAnswer (take (z .texts) cs) x y work out out′ r) (d .blocks-are) (d .rules-are) p))

@@ -1,5 +1,5 @@
--- A run with a lent work buffer beside the run with one of its own: with 63,001 bytes or more they are the same; with fewer, 4 comes in the place of a report and
--- of 5. And 5 comes only where nothing else is due. Assumes nothing.
+-- A run with a lent work buffer beside the run with one of its own: with 63,001 bytes or more they are the same; with
+-- fewer, 4 comes in the place of a report and of 5. And 5 comes only where nothing else is due. Assumes nothing.
 use mathlib.Core.Path.{_≡_, refl, sym, ap, _∙_}
 use mathlib.Core.List.{List}
 use Prim.Native.Nat.{ℕ, _≤_, _<_}
@@ -7,37 +7,34 @@ use native.Mathlib.Omega.{arith}
 use lib.ListN.{length, take, drop}
 use lib.Seq.{take-at, drop-at}
 use Rattle.answers.specs.Told.{Told, tell, told}
+use Rattle.answers.specs.Turns.{here, later}
 use Rattle.answers.specs.declared.Refusal.{Refusal}
 use Rattle.answers.specs.declared.Refusal.the-variants.{Work}
 use Rattle.answers.specs.declared.Written.{Written}
 use Rattle.answers.specs.declared.Written.the-variants.{Text, Refused}
-use Rattle.shapes.specs.Wrong.{BlockRefused}
-use Rattle.shapes.specs.Wrong.BlockRefused.{crossed, too-large, disagree}
-use Rattle.shapes.specs.Lent.{wordsOf, BlocksRefused}
-use Rattle.shapes.specs.Lent.BlocksRefused.{wrong-block, too-long}
-use Rattle.books.specs.Refused.{RuleRefused, BookRefused, BookAccepted}
-use Rattle.books.specs.Refused.RuleRefused.{wrong as wrong-rule-7, too-long as too-long-12}
-use Rattle.books.specs.Refused.BookRefused.{wrong-counts, wrong-text, wrong-rule, short-work}
-use Rattle.file_lines.specs.Book.{Book, headLine, joined}
+use Rattle.shapes.specs.Lent.{wordsOf}
+use Rattle.shapes.proofs.Refused.{blocks-tells}
+use Rattle.books.specs.Refused.{BookRefused, BookAccepted}
+use Rattle.books.proofs.Refused.{rule-tells}
+use Rattle.file_lines.specs.Grammar.{headLine, joined}
+use Rattle.file_lines.specs.Book.{Book, fileLimit}
 use Rattle.files.specs.Departs.{FileRefused, FileAccepted}
-use Rattle.files.specs.Departs.FileRefused.{large, departs}
-use Rattle.file_reports.specs.Report.{Verdict, refusedLine, reportOf, Reported}
+use Rattle.file_reports.specs.Report.{Verdict, refusedLine, headOf, reportOf, Reported}
 use Rattle.file_reports.specs.Report.Verdict.{stable, none, refused}
 use Rattle.rules.specs.Rule.{numbersOfAll}
 use Rattle.file_runs.specs.Ends.{FileEnds}
-use Rattle.file_runs.specs.Promise.{Report, ReportRefused, RunRefused, FileAnswer, LentPromise, FilePromise}
-use Rattle.file_runs.specs.Promise.ReportRefused.{wrong, short}
-use Rattle.file_runs.specs.Promise.RunRefused.{no-book, of-book}
+use Rattle.file_runs.specs.Promise.{Report, RunRefused, FileAnswer, LentPromise, FilePromise}
+use Rattle.file_runs.specs.Promise.ItsBook.{its-book}
 use Rattle.file_runs.proofs.Work.{own-work, lacks-work, any-work}
-use Rattle.file_runs.proofs.Ends.{file-ends-one}
+use Rattle.file_runs.proofs.Ends.{file-ends-one, refused-book}
 use Rattle.file_runs.proofs.Determined.{answer-one}
 
 -- ---- enough work
 
 refused-own : {file : List ℕ} {work room : ℕ} {t : Told} → 63001 ≤ work → RunRefused file work room t → RunRefused file 63001 room t
-refused-own h (no-book p) = no-book p
-refused-own h (of-book a (wrong p)) = of-book a (wrong (any-work h p))
-refused-own h (of-book a (short d g e)) = of-book a (short (own-work d) g e)
+refused-own h (here p) = here p
+refused-own h (later _ (here (its-book a (here p)))) = refused-book a (here (any-work h p))
+refused-own h (later _ (here (its-book a (later d p)))) = refused-book a (later (own-work d) p)
 
 answer-own : (file : List ℕ) (work : ℕ) (out out′ : List ℕ) (r : Written) → 63001 ≤ work → FileAnswer file work out out′ r → FileAnswer file 63001 out out′ r
 answer-own file work out out′ (Text n) h p =
@@ -54,43 +51,34 @@ lent-as-own file out work b c w x y h p q = answer-one file 63001 out b c x y (a
 number-of : {t : Told} {n x p : ℕ} → t ≡ tell n x p → t .number ≡ n
 number-of e = ap (λ (u : Told). u .number) e
 
-block-five : {n i : ℕ} {b : _} {t : Told} → BlockRefused n i b t → t .number ≡ 5 → ⊥
-block-five (crossed c e) f = let h = number-of e in omega arith
-block-five (too-large n c e) f = let h = number-of e in omega arith
-block-five (disagree n m c e) f = let h = number-of e in omega arith
-
-blocks-five : {n : ℕ} {s : _} {t : Told} → BlocksRefused n s t → t .number ≡ 5 → ⊥
-blocks-five (wrong-block i p) f = block-five (p .refused) f
-blocks-five (too-long a l e) f = let h = number-of e in omega arith
-
-rule-five : {counts : List ℕ} {S : _} {i : ℕ} {r : _} {t : Told} → RuleRefused counts S i r t → t .number ≡ 5 → ⊥
-rule-five (wrong-rule-7 n e) f = let h = number-of e in omega arith
-rule-five (too-long-12 p n e) f = let h = number-of e in omega arith
+NotFive : Told → Type 0
+NotFive t = t .number ≡ 5 → ⊥
 
 book-five : {counts blocks rules : List ℕ} {work : ℕ} {t : Told} → BookRefused counts blocks rules work t → t .number ≡ 5 → ⊥
-book-five (wrong-counts a e) f = let h = number-of e in omega arith
-book-five (wrong-text c k p) f = blocks-five (p .refused) f
-book-five (wrong-rule c s i p) f = rule-five (p .refused) f
-book-five (short-work c s r l e) f = let h = number-of e in omega arith
+unfolding NotFive
+book-five (here p) f = let h = number-of (p .tells) in omega arith
+book-five (later c (here (k, p))) f = blocks-tells NotFive (λ i. ((λ e. omega (arith, e)), (λ e. omega (arith, e)), (λ e. omega (arith, e)))) (λ e. omega (arith, e)) (p .refused) f
+book-five (later c (later s (here (i, p)))) f = rule-tells NotFive (λ e. omega (arith, e)) (λ e. omega (arith, e)) (p .refused) f
+book-five (later c (later s (later r (here p)))) f = let h = number-of (p .tells) in omega arith
 
 file-five : {file : List ℕ} {t : Told} → FileRefused file t → t .number ≡ 5 → ⊥
-file-five (large l e) f = let h = number-of e in omega arith
-file-five (departs k s d e) f = let h = number-of e in omega arith
+file-five (here p) f = let h = number-of (p .tells) in omega arith
+file-five (later s (here p)) f = let h = number-of (p .2) in omega arith
 
 -- the file is the writing of an accepted book, and only the report has no room
 pub five-last : {file : List ℕ} {work room : ℕ} {t : Told} → RunRefused file work room t → t .number ≡ 5
-    → (b : Book) × FileAccepted file b × BookAccepted (b .counts) (wordsOf (b .blocks)) (numbersOfAll (b .rules)) work × (room < 16384)
-five-last (no-book p) f = absurd (file-five p f)
-five-last (of-book a (wrong p)) f = absurd (book-five p f)
-five-last (of-book {b = b} a (short d g e)) f = (b, a, d, g)
+    → (b : Book) × FileAccepted file b × BookAccepted (b .sheet .counts) (wordsOf (b .sheet .blocks)) (numbersOfAll (b .rules)) work × (room < fileLimit)
+five-last (here p) f = absurd (file-five p f)
+five-last (later _ (here (its-book a (here p)))) f = absurd (book-five p f)
+five-last (later _ (here (its-book {b = b} a (later d (here p))))) f = (b, a, d, omega arith)
 
 -- ---- too little work
 
 -- 4 is what the lent run then answers, of a book that is accepted with enough
 answers-4 : (file out work b w : List ℕ) (x : Written) (k : Book) → length work < 63001 → LentPromise file out work b w x → FileAccepted file k
-    → BookAccepted (k .counts) (wordsOf (k .blocks)) (numbersOfAll (k .rules)) 63001 → x ≡ Refused Work
+    → BookAccepted (k .sheet .counts) (wordsOf (k .sheet .blocks)) (numbersOfAll (k .rules)) 63001 → x ≡ Refused Work
 answers-4 file out work b w x k h p a g =
-    answer-one file (length work) out b out x (Refused Work) (p .0) (of-book a (wrong (lacks-work h g)), refl) .0
+    answer-one file (length work) out b out x (Refused Work) (p .0) (refused-book a (here (lacks-work h g)), refl) .0
 
 pub less-for-text : (file out work b c w : List ℕ) (x : Written) (n : ℕ) → length work < 63001 → LentPromise file out work b w x
     → FilePromise file out c (Text n) → x ≡ Refused Work
@@ -104,9 +92,9 @@ less-for-five file out work b c w x q h p r f =
 
 -- any other refusal is the same
 refused-same : {file : List ℕ} {work room : ℕ} {t : Told} → RunRefused file 63001 room t → (t .number ≡ 5 → ⊥) → RunRefused file work room t
-refused-same (no-book p) n = no-book p
-refused-same (of-book a (wrong p)) n = of-book a (wrong (any-work (omega arith) p))
-refused-same (of-book a (short d g e)) n = absurd (n (number-of e))
+refused-same (here p) n = here p
+refused-same (later _ (here (its-book a (here p)))) n = refused-book a (here (any-work (omega arith) p))
+refused-same (later _ (here (its-book a (later d (here p))))) n = absurd (n (number-of (p .tells)))
 
 pub other-refusals : (file out work b c w : List ℕ) (x : Written) (q : Refusal) → LentPromise file out work b w x
     → FilePromise file out c (Refused q) → (told q .number ≡ 5 → ⊥) → x ≡ Refused q
@@ -128,7 +116,7 @@ report-bytes p q =
 
 -- a report has a byte at least
 pub some-bytes : (v : Verdict) → 0 < length (reportOf v)
-unfolding reportOf headLine joined refusedLine
-some-bytes (stable cs bs n) = omega arith
+unfolding reportOf headOf headLine joined refusedLine
+some-bytes (stable s n) = omega arith
 some-bytes (none n) = omega arith
 some-bytes (refused t) = omega arith

@@ -15,13 +15,14 @@ use Rattle.file_reports.specs.Report.Verdict.{stable, none as in-none, refused}
 
 -- How the run of an accepted book ends, by document 01's steps: with the final shapes, or in none.
 pub data BookEnds (counts blocks rules : List ℕ) : Verdict → Type 0 where
-  rests : {S : List Block} {m : ℕ} → BookRun counts blocks rules (shapes S) m → BookEnds counts blocks rules (stable counts S m)
+  rests : {S : List Block} {m : ℕ} → BookRun counts blocks rules (shapes S) m → BookEnds counts blocks rules (stable (record { counts = counts; blocks = S }) m)
   fails : {m : ℕ} → BookRun counts blocks rules none m → BookEnds counts blocks rules (in-none m)
 
--- How a file ends: it is refused with 9 or 8; otherwise it is the writing of a book, which has all the work space it wants, and is refused or run.
+-- How a file ends: it is refused with 9 or 8; otherwise it is the writing of a book, which has all the work space it
+-- wants, and is refused or run.
 pub data FileEnds (file : List ℕ) : Verdict → Type 0 where
   no-book : {t : Told} → FileRefused file t → FileEnds file (refused t)
   wrong-book : {b : Book} {t : Told} → FileAccepted file b
-      → BookRefused (b .counts) (wordsOf (b .blocks)) (numbersOfAll (b .rules)) 63001 t → FileEnds file (refused t)
-  of-book : {b : Book} {v : Verdict} → FileAccepted file b → BookAccepted (b .counts) (wordsOf (b .blocks)) (numbersOfAll (b .rules)) 63001
-      → BookEnds (b .counts) (wordsOf (b .blocks)) (numbersOfAll (b .rules)) v → FileEnds file v
+      → BookRefused (b .sheet .counts) (wordsOf (b .sheet .blocks)) (numbersOfAll (b .rules)) 63001 t → FileEnds file (refused t)
+  of-book : {b : Book} {v : Verdict} → FileAccepted file b → BookAccepted (b .sheet .counts) (wordsOf (b .sheet .blocks)) (numbersOfAll (b .rules)) 63001
+      → BookEnds (b .sheet .counts) (wordsOf (b .sheet .blocks)) (numbersOfAll (b .rules)) v → FileEnds file v

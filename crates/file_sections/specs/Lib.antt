@@ -1,4 +1,2 @@
--- The grammar line by line, the items of a section, and what reading them answers.
-pub mod Steps
-pub mod Items
+-- What reading a section of a file answers.
 pub mod Parts

@@ -1,84 +1,92 @@
--- What the inner functions of reading a section answer: a line at the start of some bytes, the lines of a section, the whole of it.
+-- What the inner functions of reading a section answer: a line at the start of some bytes, the lines of a section, the
+-- whole of it.
 use mathlib.Core.Path.{_≡_}
 use mathlib.Core.Bool.{Bool, true, false}
 use mathlib.Core.List.{List, _∷_, _++_, map}
-use Prim.Native.Nat.{ℕ, _+_, _*_, _≤_}
+use Prim.Native.Nat.{ℕ, _+_, _≤_, _<_}
 use lib.ListN.{length, drop}
-use lib.Seq.{sets}
-use Rattle.shapes.specs.All.{All}
-use Rattle.file_lines.specs.Book.{headLine, joined}
-use Rattle.file_lines.specs.Lines.{Says, SaysNone, Leads, LeadsNone}
+use Rattle.plain.specs.All.{All}
+use Rattle.plain.specs.Items.{joinItems, PutItem}
+use Rattle.file_lines.specs.declared.Heading.{Heading}
+use Rattle.file_lines.specs.declared.Section.{Section}
+use Rattle.file_lines.specs.Grammar.{headLine, joined, wordOf, Item, RightItem, lineOf, sizeOf, numbersOf, partLines, InSection}
+use Rattle.file_lines.specs.Book.{part}
+use Rattle.file_lines.specs.Lines.{Says, SaysNone, Opens, OpensNone}
 use Rattle.file_lines.specs.declared.NumberAt.{NumberAt}
 use Rattle.file_lines.specs.declared.NumberAt.the-variants.{Is as number, Not as no-number}
-use Rattle.file_sections.specs.declared.Item.{Item}
+use Rattle.files.specs.Departs.{Departs}
 use Rattle.file_sections.specs.declared.LineAt.{LineAt}
 use Rattle.file_sections.specs.declared.LineAt.the-variants.{Ends as line-ends, Not as no-line}
 use Rattle.file_sections.specs.declared.Lines.{Lines}
 use Rattle.file_sections.specs.declared.Lines.the-variants.{Read as lines-read, Departs as lines-depart}
-use Rattle.file_sections.specs.declared.Section.{Section}
-use Rattle.file_sections.specs.declared.Section.the-variants.{Read as section-read, Departs as section-departs}
-use Rattle.file_sections.specs.Steps.{DepartsFrom}
-use Rattle.file_sections.specs.Items.{sizeOf, RightItem, lineOf, wordOf, mostOf, before, toCome, itemsOf}
+use Rattle.file_sections.specs.declared.Items.{Items}
+use Rattle.file_sections.specs.declared.Items.the-variants.{Read as items-read, Departs as items-depart}
 
--- x is the first line of the bytes, which ends at place m
-abbrev pub LineIs : {X : Type 0} → (X → Type 0) → (X → List ℕ) → List ℕ → X → ℕ → Type 0
-LineIs Right text bytes x m = Leads 10 Right text bytes x m
+-- The numbers xs stand at the front of an output, and the rest of it stays.
+abbrev pub Front : List ℕ → List ℕ → List ℕ → Type 0
+Front xs out out′ = out′ ≡ xs ++ drop (length xs) out
 
-abbrev pub LineIsNone : {X : Type 0} → (X → Type 0) → (X → List ℕ) → List ℕ → Type 0
-LineIsNone Right text bytes = LeadsNone 10 Right text bytes
+-- The numbers of some items.
+abbrev pub numbersIn : (h : Heading) → List (Item h) → List ℕ
+numbersIn h xs = joinItems (map (numbersOf h) xs)
 
-abbrev pub HeadAt : List ℕ → ℕ → List ℕ → NumberAt → Type 0
-HeadAt word most bytes (number n m) = LineIs (λ (k : ℕ). k ≤ most) (headLine word) bytes n m
-HeadAt word most bytes no-number = LineIsNone (λ (k : ℕ). k ≤ most) (headLine word) bytes
+-- a section's count on the first line
+abbrev pub HeadAt : Section → List ℕ → NumberAt → Type 0
+HeadAt s bytes (number n m) = Opens 10 (λ (k : ℕ). k ≤ s .most) (headLine (wordOf (s .heading))) bytes n m
+HeadAt s bytes no-number = OpensNone 10 (λ (k : ℕ). k ≤ s .most) (headLine (wordOf (s .heading))) bytes
 
--- what one line says is stored from place `at` on
-pub record LineStored (item : Item) (line : List ℕ) (at : ℕ) (out out′ : List ℕ) : Type 0 where
-  pub item-is : List ℕ
-  pub says : Says (RightItem item) (lineOf item) line item-is
-  pub stored : out′ ≡ sets out at item-is
+-- what one line says is stored as item number i
+pub record LineStored (h : Heading) (line : List ℕ) (i : ℕ) (out out′ : List ℕ) : Type 0 where
+  pub item : Item h
+  pub says : Says (RightItem h) (lineOf h) line item
+  pub stored : PutItem (sizeOf h) out i (numbersOf h item) out′
 
-abbrev pub LineRead : Item → List ℕ → ℕ → List ℕ → List ℕ → Bool → Type 0
-LineRead item line at out out′ true = LineStored item line at out out′
-LineRead item line at out out′ false = SaysNone (RightItem item) (lineOf item) line
+abbrev pub LineRead : Heading → List ℕ → ℕ → List ℕ → List ℕ → Bool → Type 0
+LineRead h line i out out′ true = LineStored h line i out out′
+LineRead h line i out out′ false = SaysNone (RightItem h) (lineOf h) line
 
 -- the first line of the bytes, to place m
-pub record LineTaken (item : Item) (bytes : List ℕ) (m at : ℕ) (out out′ : List ℕ) : Type 0 where
-  pub item-is : List ℕ
-  pub line : LineIs (RightItem item) (lineOf item) bytes item-is m
-  pub stored : out′ ≡ sets out at item-is
+pub record LineTaken (h : Heading) (bytes : List ℕ) (m i : ℕ) (out out′ : List ℕ) : Type 0 where
+  pub item : Item h
+  pub line : Opens 10 (RightItem h) (lineOf h) bytes item m
+  pub stored : PutItem (sizeOf h) out i (numbersOf h item) out′
 
-abbrev pub LineHere : Item → List ℕ → ℕ → List ℕ → List ℕ → LineAt → Type 0
-LineHere item bytes at out out′ (line-ends m) = LineTaken item bytes m at out out′
-LineHere item bytes at out out′ no-line = LineIsNone (RightItem item) (lineOf item) bytes
+abbrev pub LineHere : Heading → List ℕ → ℕ → List ℕ → List ℕ → LineAt → Type 0
+LineHere h bytes i out out′ (line-ends m) = LineTaken h bytes m i out out′
+LineHere h bytes i out out′ no-line = OpensNone 10 (RightItem h) (lineOf h) bytes
 
--- the first n lines of the bytes, to place m, are those of xs
-pub record LinesAre {X : Type 0} (Right : X → Type 0) (text : X → List ℕ) (bytes : List ℕ) (xs : List X) (n m : ℕ) : Type 0 where
-  pub count : length xs ≡ n
-  pub right : All Right xs
+-- the first n lines of the bytes, to place m, are items, whose numbers are stored
+pub record LinesAre (h : Heading) (bytes out out′ : List ℕ) (n m : ℕ) : Type 0 where
+  pub items : List (Item h)
+  pub count : length items ≡ n
+  pub right : All (RightItem h) items
   pub within : m ≤ length bytes
-  pub split : bytes ≡ joined (map text xs) ++ drop m bytes
+  pub split : bytes ≡ joined (map (lineOf h) items) ++ drop m bytes
+  pub stored : Front (numbersIn h items) out out′
 
--- the n lines of a section are the first n items of the output; the numbers past them stay
-abbrev pub LinesRead : Item → ℕ → List ℕ → List ℕ → List ℕ → Lines → Type 0
-LinesRead item n bytes out out′ (lines-read m) =
-    LinesAre (RightItem item) (lineOf item) bytes (itemsOf (sizeOf item) n out′) n m × (drop (n * sizeOf item) out′ ≡ drop (n * sizeOf item) out)
-LinesRead item n bytes out out′ (lines-depart i) = DepartsFrom (toCome item n) bytes i × (i ≤ n)
+-- only the first i lines are items
+pub record LinesStop (h : Heading) (bytes : List ℕ) (i : ℕ) : Type 0 where
+  pub items : List (Item h)
+  pub count : length items ≡ i
+  pub right : All (RightItem h) items
+  pub rest : List ℕ
+  pub split : bytes ≡ joined (map (lineOf h) items) ++ rest
+  pub stop : OpensNone 10 (RightItem h) (lineOf h) rest
 
--- n items and no more than `most`, each right
-pub record Items {X : Type 0} (most : ℕ) (Right : X → Type 0) (xs : List X) (n : ℕ) : Type 0 where
-  pub few : n ≤ most
-  pub count : length xs ≡ n
-  pub right : All Right xs
+abbrev pub LinesRead : Heading → ℕ → List ℕ → List ℕ → List ℕ → Lines → Type 0
+LinesRead h n bytes out out′ (lines-read m) = LinesAre h bytes out out′ n m
+LinesRead h n bytes out out′ (lines-depart i) = LinesStop h bytes i × (i < n)
 
--- a section with its count, to place m
-pub record SectionIs {X : Type 0} (word : List ℕ) (most : ℕ) (Right : X → Type 0) (text : X → List ℕ) (bytes : List ℕ) (xs : List X) (n m : ℕ) : Type 0 where
-  pub items : Items most Right xs n
+-- A section at the start of the bytes, to place m: its n items, whose numbers are stored.
+pub record SectionIs (s : Section) (bytes out out′ : List ℕ) (n m : ℕ) : Type 0 where
+  pub items : List (Item (s .heading))
+  pub count : length items ≡ n
+  pub fits : InSection s (part (s .heading) items)
   pub within : m ≤ length bytes
-  pub split : bytes ≡ joined (headLine word n ∷ map text xs) ++ drop m bytes
+  pub split : bytes ≡ joined (partLines (s .heading) items) ++ drop m bytes
+  pub stored : Front (numbersIn (s .heading) items) out out′
 
--- (How many lines stand before the one that departs is bounded so that the line's number fits.)
-abbrev pub SectionRead : Item → List ℕ → List ℕ → List ℕ → Section → Type 0
-SectionRead item bytes out out′ (section-read n m) =
-    SectionIs (wordOf item) (mostOf item) (RightItem item) (lineOf item) bytes (itemsOf (sizeOf item) n out′) n m
-    × (drop (n * sizeOf item) out′ ≡ drop (n * sizeOf item) out)
-SectionRead item bytes out out′ (section-departs i) = DepartsFrom (before item) bytes i × (i ≤ mostOf item + 1)
+-- Or the line after i lines departs, whatever sections follow. (i is bounded so that the line's number fits.)
+abbrev pub SectionRead : Section → List ℕ → List ℕ → List ℕ → Items → Type 0
+SectionRead s bytes out out′ (items-read n m) = SectionIs s bytes out out′ n m
+SectionRead s bytes out out′ (items-depart i) = ((G : List Section) → Departs (s ∷ G) bytes (i + 1)) × (i ≤ s .most + 1)

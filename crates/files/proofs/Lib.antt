@@ -1,4 +1,5 @@
--- The laws of book files that other crates cite.
-pub mod Book
+-- The laws of files in a grammar that other crates cite.
+pub mod Items
+pub mod Departs
 pub mod Unique
 pub mod Example

@@ -1,2 +1,2 @@
--- The book file: when it departs from its grammar.
+-- When a file departs from its grammar, and when it is refused.
 pub mod Departs

@@ -1,1 +1,1 @@
-// What a book file is, and at which line another departs: definitions and proofs alone, no code.
+// What a file in a grammar is, and at which line another departs: definitions and proofs alone, no code.

@@ -1,4 +1,5 @@
--- The words that tell where the mark has each of its characters, and with which of its own starts each of its starts ends.
+-- The words that tell where the mark has each of its characters, and with which of its own starts each of its starts
+-- ends.
 use mathlib.Core.Path.{_≡_}
 use mathlib.Core.List.{List}
 use mathlib.Core.Logic.{_⊎_}

@@ -1,11 +1,12 @@
-// Where the mark has each of its characters, and with which of its own starts each of its starts ends: a word for each, with a bit for each number.
+// Where the mark has each of its characters, and with which of its own starts each of its starts ends: a word for each,
+// with a bit for each number.
 ghost use mathlib.Core.Path.{_≡_};
 ghost use mathlib.Core.Bool.{true};
 ghost use mathlib.Core.Logic.{_⊎_};
 ghost use Prim.Native.Nat.{_<_};
 ghost use lib.ListN.{length, getD};
 ghost use Rattle.bases.specs.Base.{Holds};
-ghost use Rattle.bases.specs.Tells.{Tells};
+ghost use Rattle.plain.specs.Tells.{Tells};
 ghost use Rattle.sets.specs.Set.{Exactly};
 ghost use Rattle.find_borders.specs.Borders.{ShortMark, SameAt, Sames, Borders, UpOne};
 

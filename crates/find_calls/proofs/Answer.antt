@@ -11,7 +11,7 @@ use Rattle.sets.specs.Set.{Exactly}
 use Rattle.answers.specs.declared.Index.{Index}
 use Rattle.answers.specs.declared.Sought.{Sought}
 use Rattle.answers.specs.declared.Sought.the-variants.{Nowhere, InSome, InAll, Refused}
-use Rattle.shapes.specs.All.{All}
+use Rattle.plain.specs.All.{All}
 use Rattle.shapes.specs.Shape.{Block, Sound, Fits}
 use Rattle.shapes.specs.Lent.{shapeOf}
 use Rattle.find_texts.specs.Occurs.{Lacks, SomeLacks, Indices}

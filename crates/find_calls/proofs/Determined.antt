@@ -1,29 +1,28 @@
 -- One input has one refusal, and none where it is accepted; and one answer. Assumes nothing.
 use mathlib.Core.Path.{_≡_, refl, ap, ap₂}
 use mathlib.Core.List.{List}
-use Prim.Native.Nat.{ℕ, _≤_}
+use Prim.Native.Nat.{ℕ}
 use native.Mathlib.Omega.{arith}
-use lib.ListN.{length}
 use Rattle.answers.specs.Told.{Told}
+use Rattle.answers.specs.Turns.{inTurn}
 use Rattle.answers.proofs.Told.{told-one}
-use Rattle.answers.proofs.Turns.{OneOf, turns-one, unless-one}
+use Rattle.answers.proofs.Turns.{OneOf, need-one, in-turn-one}
 use Rattle.answers.specs.declared.Index.{Index}
 use Rattle.answers.specs.declared.Sought.{Sought}
 use Rattle.answers.specs.declared.Sought.the-variants.{Nowhere, InSome, InAll, Refused}
 use Rattle.shapes.specs.Shape.{Block, Fits}
-use Rattle.shapes.specs.Lent.{Accepted}
-use Rattle.shapes.proofs.Refused.{shape-one, shape-not}
+use Rattle.shapes.proofs.Refused.{of-shape}
 use Rattle.find_texts.specs.Occurs.{Lacks, SomeFirst, Indices}
-use Rattle.find_calls.specs.Find.{Asked, FindRefused, FindPromise}
+use Rattle.find_calls.specs.Find.{Asked, findTurns, FindRefused, FindPromise}
 
-refused : (xs mark : List ℕ) → OneOf (Accepted xs × (length mark ≤ 64)) (FindRefused xs mark)
-refused xs mark = turns-one (record { one = shape-one; not = shape-not }) unless-one
+of-find : (xs mark : List ℕ) → OneOf (inTurn (Asked xs mark) (findTurns xs mark))
+of-find xs mark = in-turn-one (findTurns xs mark) (of-shape, (need-one, tt)) (λ a. (a .accepted, (a .few, tt)))
 
 pub find-refused-one : (xs mark : List ℕ) {t u : Told} → FindRefused xs mark t → FindRefused xs mark u → t ≡ u
-find-refused-one xs mark p q = refused xs mark .one p q
+find-refused-one xs mark p q = of-find xs mark .one p q
 
 pub find-refused-not : (xs mark : List ℕ) {t : Told} → FindRefused xs mark t → Asked xs mark → ⊥
-find-refused-not xs mark p a = refused xs mark .not p (a .accepted, a .few)
+find-refused-not xs mark p a = of-find xs mark .not p a
 
 -- a text that has the mark does not lack it
 pub has-not-lacks : {mark : List ℕ} {s : List Block} {i : ℕ} → SomeFirst mark s i → ((t : List ℕ) → Fits s t → Lacks mark t) → ⊥

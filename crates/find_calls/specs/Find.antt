@@ -1,15 +1,15 @@
--- Document 02, order 7: whether some fitting text lacks the mark, and the least and greatest character index at which its first occurrence starts over
--- the fitting texts that have it, or that none has it.
+-- Document 02, order 7: whether some fitting text lacks the mark, and the least and greatest character index at which
+-- its first occurrence starts over the fitting texts that have it, or that none has it.
 use mathlib.Core.Bool.{Bool, true, false}
-use mathlib.Core.List.{List}
+use mathlib.Core.List.{List, [], _∷_}
 use Prim.Native.Nat.{ℕ, _≤_}
 use lib.ListN.{length}
 use Rattle.answers.specs.Told.{Told, told, tell}
-use Rattle.answers.specs.Turns.{Turns, Unless}
+use Rattle.answers.specs.Turns.{Turn, FirstDue, need}
 use Rattle.answers.specs.declared.Sought.{Sought}
 use Rattle.answers.specs.declared.Sought.the-variants.{Nowhere, InSome, InAll, Refused}
 use Rattle.shapes.specs.Shape.{Block, Fits}
-use Rattle.shapes.specs.Lent.{shapeOf, Accepted, ShapeRefused}
+use Rattle.shapes.specs.Lent.{shapeOf, Accepted, ofShape}
 use Rattle.find_texts.specs.Occurs.{Lacks, SomeLacks, Indices}
 
 -- what is true of the texts that fit s where this is answered
@@ -25,8 +25,11 @@ pub record Asked (xs mark : List ℕ) : Type 0 where
   pub few : length mark ≤ 64
 
 -- the refusals of the shape, which is text 1; then 13, of text 0 and place 0
+abbrev pub findTurns : List ℕ → List ℕ → List Turn
+findTurns xs mark = ofShape 1 xs ∷ need (length mark ≤ 64) (tell 13 0 0) ∷ []
+
 abbrev pub FindRefused : List ℕ → List ℕ → Told → Type 0
-FindRefused xs mark = Turns (Accepted xs) (ShapeRefused 1 xs) (Unless (length mark ≤ 64) (tell 13 0 0))
+FindRefused xs mark = FirstDue (findTurns xs mark)
 
 abbrev pub FindPromise : List ℕ → List ℕ → Sought → Type 0
 FindPromise xs mark Nowhere = Asked xs mark × SoughtIn mark (shapeOf xs) Nowhere

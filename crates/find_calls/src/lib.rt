@@ -10,7 +10,8 @@ ghost use Rattle.shapes.specs.Lent.{Accepted, shapeOf};
 ghost use Rattle.find_borders.specs.Borders.{ShortMark};
 ghost use Rattle.find_calls.specs.Find.{SoughtIn, FindPromise};
 
-// The index at which a mark of m characters starts whose last is character k: the only place where an index is made, from lengths.
+// The index at which a mark of m characters starts whose last is character k: the only place where an index is made,
+// from lengths.
 fn index_of(k: usize, m: usize) -> Index
     requires { ⌜ (m ≤ k) × (k < 256) ⌝ }
     ensures { λ r. ⌜ r .at + m ≡ k + 1 ⌝ }

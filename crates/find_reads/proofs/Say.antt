@@ -8,38 +8,38 @@ use native.Mathlib.Omega.{arith}
 use lib.Bits.{bitOr}
 use lib.ListN.{length, length-append}
 use Rattle.bases.specs.Base.{Holds, Empty}
-use Rattle.bases.specs.Tells.{Tells}
+use Rattle.plain.specs.Tells.{Tells}
 use Rattle.bases.proofs.Laws.{none-in-zero}
-use Rattle.bases.proofs.Plain.{lt-or-le, eq-or-ne}
+use Rattle.plain.proofs.Plain.{lt-or-le, eq-or-ne}
 use Rattle.sets.specs.Set.{Exactly}
 use Rattle.sets.proofs.Exact.{exactly-as, exactly-at, none-exactly, either-exactly, one-exactly}
 use Rattle.shapes.specs.Shape.{Block, Sound, Fits, total}
 use Rattle.rows.specs.Row.{rowIn, PutRow}
 use Rattle.find_texts.specs.Occurs.{OccursAt, Lacks}
-use Rattle.find_texts.specs.Match.{Completes, Then, Kept}
-use Rattle.find_texts.specs.Reading.{Begun, Within, ReadTo}
+use Rattle.find_texts.specs.Match.{Completes, Then, SomeKept}
+use Rattle.find_texts.specs.Reading.{Begun, ReadWithin, ReadTo}
 use Rattle.find_texts.proofs.Occur.{occurs-within, occurs-more, lacks-front}
 use Rattle.find_texts.proofs.State.{state-of}
 use Rattle.find_texts.proofs.Whole.{lacks-or-has}
 use Rattle.find_texts.proofs.Step.{lacking-small, kept-step, step-kept, struck-step, step-struck, kept-as, struck-as, stepped-as}
 use Rattle.find_texts.proofs.Read.{fits-last, within-none, none-within, within-on, on-within, within-more, more-within, within-length, block-within, within-block, begun-read, read-begun, read-more, more-read, read-none}
 use Rattle.find_texts.proofs.Found.{start-kept, kept-start, none-struck}
-use Rattle.find_rows.specs.Says.{Says, HitsSay, LiveIn, Arrived, Moved}
+use Rattle.find_rows.specs.Says.{RowsSay, HitsSay, LiveIn, Arrived, Moved}
 use Rattle.find_reads.specs.Reads.{Heard, LeftIn}
 
 -- a text of so few characters has a length that a row can hold
-short : {s : List Block} {base lower o : ℕ} → total s + o < 255 → (t : List ℕ) → Within s base lower o t → length t < 255
+short : {s : List Block} {base lower o : ℕ} → total s + o < 255 → (t : List ℕ) → ReadWithin s base lower o t → length t < 255
 short bound t x = let n = within-length x in omega arith
 
 module _ {mark : List ℕ} where
-  pub says-as : {T U : List ℕ → Type 0} {rows : List ℕ} → ((t : List ℕ) → T t → U t) → ((t : List ℕ) → U t → T t) → Says mark T rows → Says mark U rows
+  pub says-as : {T U : List ℕ → Type 0} {rows : List ℕ} → ((t : List ℕ) → T t → U t) → ((t : List ℕ) → U t → T t) → RowsSay mark T rows → RowsSay mark U rows
   says-as f g s = record { each = λ q l. exactly-as (λ k x. kept-as mark f x) (λ k x. kept-as mark g x) (s .each q l) }
 
   pub hits-as : {T U : List ℕ → Type 0} {h : ℕ} → ((t : List ℕ) → T t → U t) → ((t : List ℕ) → U t → T t) → HitsSay mark T h → HitsSay mark U h
   hits-as f g s = record { all = exactly-as (λ k x. struck-as mark f x) (λ k x. struck-as mark g x) (s .all) }
 
-  module _ {T : List ℕ → Type 0} {base : ℕ} {was : List ℕ} (short : (t : List ℕ) → T t → length t < 255) (s : Says mark T was) where
-    pub says-moved : {keep : Bool} {rows : List ℕ} → Moved mark base keep was rows → Says mark (λ t. Then T base t ⊎ ((keep ≡ true) × T t)) rows
+  module _ {T : List ℕ → Type 0} {base : ℕ} {was : List ℕ} (short : (t : List ℕ) → T t → length t < 255) (s : RowsSay mark T was) where
+    pub says-moved : {keep : Bool} {rows : List ℕ} → Moved mark base keep was rows → RowsSay mark (λ t. Then T base t ⊎ ((keep ≡ true) × T t)) rows
     says-moved {keep} x = record {
       each = λ r l. exactly-as
           (λ k a. ⊎-elim
@@ -80,8 +80,8 @@ module _ {mark : List ℕ} where
   -- ---- within a block
 
   module _ {s : List Block} {base lower o : ℕ} (bound : total s + o < 255) where
-    pub says-more : {keep : Bool} {was rows : List ℕ} → Tells keep (lower ≤ o) → Says mark (Within s base lower o) was → Moved mark base keep was rows
-        → Says mark (Within s base lower (o + 1)) rows
+    pub says-more : {keep : Bool} {was rows : List ℕ} → Tells keep (lower ≤ o) → RowsSay mark (ReadWithin s base lower o) was → Moved mark base keep was rows
+        → RowsSay mark (ReadWithin s base lower (o + 1)) rows
     says-more {keep} {was} {rows} k x y = ⊎-elim
         (λ l. says-as
         (λ t z. ⊎-elim (λ i. within-on l i) (λ i. let e = k .so (i .0) in absurd (omega arith)) z)
@@ -100,18 +100,18 @@ module _ {mark : List ℕ} where
         told : lower ≤ o → keep ≡ true
         told l = go keep k l
 
-    pub hits-more : {was : List ℕ} {h a x : ℕ} → Says mark (Within s base lower o) was → HitsSay mark (ReadTo s base o) h → Exactly a (Arrived mark base was (length mark)) → x ≡ bitOr h a
+    pub hits-more : {was : List ℕ} {h a x : ℕ} → RowsSay mark (ReadWithin s base lower o) was → HitsSay mark (ReadTo s base o) h → Exactly a (Arrived mark base was (length mark)) → x ≡ bitOr h a
         → HitsSay mark (ReadTo s base (o + 1)) x
     hits-more x u y e = hits-as (λ t z. more-read z) (λ t z. read-more z) (hits-then (short bound) x u y e)
 
   -- the block's end
-  pub block-end : {s : List Block} (b : Block) {rows : List ℕ} → Sound b → Says mark (Within s (b .base) (b .lower) (b .upper)) rows → Says mark (Fits (s ++ (b ∷ []))) rows
+  pub block-end : {s : List Block} (b : Block) {rows : List ℕ} → Sound b → RowsSay mark (ReadWithin s (b .base) (b .lower) (b .upper)) rows → RowsSay mark (Fits (s ++ (b ∷ []))) rows
   block-end b g x = says-as (λ t z. within-block b (g .ordered) z) (λ t z. block-within b z) x
 
   pub block-hits : {s : List Block} (b : Block) {h : ℕ} → Sound b → HitsSay mark (ReadTo s (b .base) (b .upper)) h → HitsSay mark (Begun (s ++ (b ∷ []))) h
   block-hits {s} b g x = hits-as (λ t z. read-begun s b g z) (λ t z. begun-read s b z) x
 
-  pub block-start : {s : List Block} {base lower : ℕ} {rows : List ℕ} → Says mark (Fits s) rows → Says mark (Within s base lower 0) rows
+  pub block-start : {s : List Block} {base lower : ℕ} {rows : List ℕ} → RowsSay mark (Fits s) rows → RowsSay mark (ReadWithin s base lower 0) rows
   block-start x = says-as (λ t z. within-none z) (λ t z. none-within z) x
 
   pub hits-start : {s : List Block} {base h : ℕ} → HitsSay mark (Begun s) h → HitsSay mark (ReadTo s base 0) h
@@ -123,10 +123,10 @@ heard-of {mark} {rows} {hits} e x = subst (λ (z : List Block). Heard mark z row
 
 -- ---- the start
 
-pub rows-start : {mark w rows : List ℕ} {one : ℕ} → 0 < length mark → ((q : ℕ) → q < length mark → rowIn w q ≡ 0) → Exactly one (λ e. e ≡ 0) → PutRow w 0 one rows → Says mark (Fits []) rows
+pub rows-start : {mark w rows : List ℕ} {one : ℕ} → 0 < length mark → ((q : ℕ) → q < length mark → rowIn w q ≡ 0) → Exactly one (λ e. e ≡ 0) → PutRow w 0 one rows → RowsSay mark (Fits []) rows
 rows-start {mark} {w} {rows} {one} h z o p = record {
   each = λ q l. ⊎-elim
-      (λ e. subst (λ (x : ℕ). Exactly (rowIn rows x) (Kept mark (Fits []) x)) (sym e)
+      (λ e. subst (λ (x : ℕ). Exactly (rowIn rows x) (SomeKept mark (Fits []) x)) (sym e)
       (exactly-at (p .here) (exactly-as (λ k i. start-kept h (refl, i)) (λ k x. kept-start x .1) o)))
       (λ e. none-exactly (p .kept q e ∙ z q l) (λ k x. e (kept-start x .0)))
       (eq-or-ne q 0);
@@ -136,7 +136,7 @@ pub hits-none : {mark : List ℕ} {h : ℕ} → 0 < length mark → h ≡ 0 → 
 hits-none h z = record { all = none-exactly z (λ k x. none-struck h x) }
 
 -- the live states are those of the texts that are left
-pub live-left : {mark : List ℕ} {T : List ℕ → Type 0} {rows : List ℕ} {w : ℕ} → Says mark T rows → Exactly w (LiveIn mark rows) → Exactly w (LeftIn mark T)
+pub live-left : {mark : List ℕ} {T : List ℕ → Type 0} {rows : List ℕ} {w : ℕ} → RowsSay mark T rows → Exactly w (LiveIn mark rows) → Exactly w (LeftIn mark T)
 live-left s a = exactly-as
     (λ q h. record { below = h .0; count = h .1 .number; kept = s .each q (h .0) .so (h .1 .number) (h .1 .held) })
     (λ q h. (h .below, record { number = h .count; held = s .each q (h .below) .has (h .count) (h .kept) }))
@@ -152,14 +152,14 @@ first-live mark {w} {rows} {one} h z o p = exactly-as
 
 -- ---- where every text has the mark, a block more changes nothing
 
-module _ {mark : List ℕ} {s : List Block} {rows : List ℕ} (none : (q : ℕ) → LiveIn mark rows q → ⊥) (h : Says mark (Fits s) rows) where
+module _ {mark : List ℕ} {s : List Block} {rows : List ℕ} (none : (q : ℕ) → LiveIn mark rows q → ⊥) (h : RowsSay mark (Fits s) rows) where
   all-have : (t : List ℕ) → Fits s t → Lacks mark t → ⊥
   all-have t f l =
       let m = state-of mark t in
       let k = lacking-small mark l (m .1) in
       none (m .0) (k, record { number = length t; held = h .each (m .0) k .has (length t) (record { text = t; is = f; long = refl; lacks = l; matched = m .1 }) })
 
-  says-on : (b : Block) → Says mark (Fits (s ++ (b ∷ []))) rows
+  says-on : (b : Block) → RowsSay mark (Fits (s ++ (b ∷ []))) rows
   says-on b = record {
     each = λ q l. record {
       so = λ k x. absurd (none q (l, record { number = k; held = x }));

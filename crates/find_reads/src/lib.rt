@@ -1,4 +1,5 @@
-// A shape read for a mark, block by block: the states that some text which lacks the mark ends in, and the lengths at which the mark is complete for the first time.
+// A shape read for a mark, block by block: the states that some text which lacks the mark ends in, and the lengths at
+// which the mark is complete for the first time.
 use find_ways::Ways;
 use sets::Set;
 use shapes::Block;

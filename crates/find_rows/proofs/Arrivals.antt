@@ -1,13 +1,13 @@
 -- One character more, row by row. Assumes nothing.
 use mathlib.Core.Path.{_≡_, refl, sym, subst}
 use mathlib.Core.List.{List}
-use mathlib.Core.Logic.{_⊎_, inl, inr, ⊎-elim}
+use mathlib.Core.Logic.{inl, inr, ⊎-elim}
 use Prim.Native.Nat.{ℕ, _+_, _-_, _*_, _%_, _^_, _<_}
 use native.Mathlib.Omega.{arith}
 use lib.Bits.{bitAnd, bitOr}
 use lib.ListN.{length, getD}
 use Rattle.bases.specs.Base.{Holds}
-use Rattle.bases.proofs.Plain.{eq-or-ne}
+use Rattle.plain.proofs.Plain.{eq-or-ne}
 use Rattle.sets.specs.Set.{Exactly}
 use Rattle.sets.proofs.Exact.{exactly-as, both-exactly, either-exactly, up-exactly, none-exactly}
 use Rattle.rows.specs.Row.{rowIn}

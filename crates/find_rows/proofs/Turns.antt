@@ -7,9 +7,9 @@ use Prim.Native.Nat.{ℕ, _+_, _-_, _≤_, _<_}
 use native.Mathlib.Omega.{arith}
 use lib.ListN.{length}
 use Rattle.bases.specs.Base.{Holds, Empty}
-use Rattle.bases.specs.Tells.{Tells}
+use Rattle.plain.specs.Tells.{Tells}
 use Rattle.bases.proofs.Laws.{none-in-zero}
-use Rattle.bases.proofs.Plain.{lt-or-le}
+use Rattle.plain.proofs.Plain.{lt-or-le}
 use Rattle.bases.proofs.Sets.{some-held}
 use Rattle.sets.specs.Set.{Exactly}
 use Rattle.sets.proofs.Exact.{exactly-as, exactly-at}

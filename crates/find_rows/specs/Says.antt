@@ -8,11 +8,11 @@ use lib.ListN.{length}
 use Rattle.bases.specs.Base.{Holds}
 use Rattle.sets.specs.Set.{Exactly}
 use Rattle.rows.specs.Row.{rowIn}
-use Rattle.find_texts.specs.Match.{Kept, Struck, Stepped}
+use Rattle.find_texts.specs.Match.{SomeKept, Struck, Stepped}
 
 -- Of the texts that have T.
-pub record Says (mark : List ℕ) (T : List ℕ → Type 0) (rows : List ℕ) : Type 0 where
-  pub each : (q : ℕ) → q < length mark → Exactly (rowIn rows q) (Kept mark T q)
+pub record RowsSay (mark : List ℕ) (T : List ℕ → Type 0) (rows : List ℕ) : Type 0 where
+  pub each : (q : ℕ) → q < length mark → Exactly (rowIn rows q) (SomeKept mark T q)
 
 -- The lengths at which the mark is complete for the first time.
 pub record HitsSay (mark : List ℕ) (T : List ℕ → Type 0) (hits : ℕ) : Type 0 where

@@ -1,4 +1,5 @@
-// One character of a base more: for each state of the search the row of the lengths of the texts that lack the mark so far, from the rows before it.
+// One character of a base more: for each state of the search the row of the lengths of the texts that lack the mark so
+// far, from the rows before it.
 use find_borders::add_if;
 use find_ways::Ways;
 use sets::Set;
@@ -30,7 +31,8 @@ fn gather(rows: &[u64; 256], w: u64) -> Set
     r
 }
 
-// The lengths that one character leads to, with t matched. The rows from t on are as before that character, and `last` is the one before them as it was.
+// The lengths that one character leads to, with t matched. The rows from t on are as before that character, and `last`
+// is the one before them as it was.
 pub fn arrive(
     mark: &[u8],
     falls: &[u64; 64],

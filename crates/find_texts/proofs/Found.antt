@@ -1,4 +1,5 @@
--- What is found of the texts that fit, from the lengths that are kept and those at which the mark is complete. Assumes nothing.
+-- What is found of the texts that fit, from the lengths that are kept and those at which the mark is complete. Assumes
+-- nothing.
 use mathlib.Core.Path.{_≡_, refl, sym, ap, _∙_, subst}
 use mathlib.Core.List.{List, [], _++_}
 use Prim.Native.Nat.{ℕ, _+_, _≤_, _<_}
@@ -8,7 +9,7 @@ use lib.Seq.{length-take-le}
 use Rattle.shapes.specs.Shape.{Block, Fits}
 use Rattle.shapes.proofs.Fits.{fits-none, none-fits}
 use Rattle.find_texts.specs.Occurs.{FirstAt, SomeLacks, SomeFirst, Indices}
-use Rattle.find_texts.specs.Match.{Kept, Struck}
+use Rattle.find_texts.specs.Match.{SomeKept, Struck}
 use Rattle.find_texts.specs.Reading.{Begun}
 use Rattle.find_texts.proofs.Occur.{first-on, first-cut, occurs-within, completes-some}
 use Rattle.find_texts.proofs.State.{ends-none, ends-length, state-of}
@@ -25,10 +26,10 @@ module _ {mark : List ℕ} {s : List Block} where
       let c = first-cut (x .first) in
       (length (c .front), record { text = c .front; is = record { rest = c .rest; fits = subst (Fits s) (c .text) (x .fits) }; long = refl; completes = c .completes }, c .long)
 
-  pub kept-lacks : {q k : ℕ} → Kept mark (Fits s) q k → SomeLacks mark s
+  pub kept-lacks : {q k : ℕ} → SomeKept mark (Fits s) q k → SomeLacks mark s
   kept-lacks x = record { text = x .text; fits = x .is; lacks = x .lacks }
 
-  pub lacks-kept : SomeLacks mark s → (q : ℕ) × (k : ℕ) × (q < length mark) × Kept mark (Fits s) q k
+  pub lacks-kept : SomeLacks mark s → (q : ℕ) × (k : ℕ) × (q < length mark) × SomeKept mark (Fits s) q k
   lacks-kept x =
       let m = state-of mark (x .text) in
       (m .0, length (x .text), lacking-small mark (x .lacks) (m .1), record { text = x .text; is = x .fits; long = refl; lacks = x .lacks; matched = m .1 })
@@ -53,8 +54,8 @@ module _ {mark : List ℕ} {s : List Block} where
 -- ---- before anything is read
 
 module _ {mark : List ℕ} where
-  pub start-kept : {q k : ℕ} → 0 < length mark → (q ≡ 0) × (k ≡ 0) → Kept mark (Fits []) q k
-  start-kept {q} {k} h e = subst (λ (n : ℕ). Kept mark (Fits []) n k) (sym (e .0)) (subst (Kept mark (Fits []) 0) (sym (e .1)) (record {
+  pub start-kept : {q k : ℕ} → 0 < length mark → (q ≡ 0) × (k ≡ 0) → SomeKept mark (Fits []) q k
+  start-kept {q} {k} h e = subst (λ (n : ℕ). SomeKept mark (Fits []) n k) (sym (e .0)) (subst (SomeKept mark (Fits []) 0) (sym (e .1)) (record {
     text = [];
     is = fits-none;
     long = refl;
@@ -65,7 +66,7 @@ module _ {mark : List ℕ} where
       short : (r : ℕ) → r ≤ length mark → length (take r mark) ≤ 0 → r ≤ 0
       short r l n = let z = length-take-le r mark l in omega arith
 
-  pub kept-start : {q k : ℕ} → Kept mark (Fits []) q k → (q ≡ 0) × (k ≡ 0)
+  pub kept-start : {q k : ℕ} → SomeKept mark (Fits []) q k → (q ≡ 0) × (k ≡ 0)
   kept-start {q} {k} x =
       let e = none-fits (x .is) in
       let n = ends-length (x .matched .ends) in

@@ -1,11 +1,11 @@
 -- Occurrences in the front of a text and in the whole of it; the first one cuts a text after its end. Assumes nothing.
 use mathlib.Core.Path.{_≡_, refl, sym, ap, _∙_, subst}
 use mathlib.Core.List.{List, [], _∷_, _++_, append-assoc, append-nil}
-use mathlib.Core.Logic.{_⊎_, ⊎-elim}
+use mathlib.Core.Logic.{⊎-elim}
 use Prim.Native.Nat.{ℕ, _+_, _≤_, _<_}
 use native.Mathlib.Omega.{arith}
 use lib.ListN.{length, length-append}
-use Rattle.bases.proofs.Plain.{lt-or-le}
+use Rattle.plain.proofs.Plain.{lt-or-le}
 use Rattle.find_texts.specs.Occurs.{OccursAt, Lacks, FirstAt}
 use Rattle.find_texts.specs.Match.{Ends, Completes}
 use Rattle.find_texts.proofs.Lists.{cut, length-snoc}

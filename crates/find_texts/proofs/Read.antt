@@ -1,4 +1,5 @@
--- What some blocks and so many characters of one more read: one character more, the end of the block, and the starts of the texts that fit. Assumes nothing.
+-- What some blocks and so many characters of one more read: one character more, the end of the block, and the starts of
+-- the texts that fit. Assumes nothing.
 use mathlib.Core.Path.{_≡_, refl, sym, ap, _∙_, subst}
 use mathlib.Core.List.{List, [], _∷_, _++_, append-assoc, append-nil}
 use mathlib.Core.Logic.{_⊎_, inl, inr, ⊎-elim}
@@ -7,15 +8,15 @@ use native.Mathlib.Omega.{arith}
 use lib.ListN.{length, length-append, replicate, length-replicate}
 use Rattle.bases.specs.Base.{Holds, Empty}
 use Rattle.bases.proofs.Laws.{none-in-zero}
-use Rattle.bases.proofs.Plain.{lt-or-le}
+use Rattle.plain.proofs.Plain.{lt-or-le}
 use Rattle.bases.proofs.Sets.{some-held}
-use Rattle.shapes.specs.All.{All}
-use Rattle.shapes.specs.All.All.{none, more}
+use Rattle.plain.specs.All.{All}
+use Rattle.plain.specs.All.All.{none, more}
 use Rattle.shapes.specs.Shape.{Block, Sound, Run, Filling, done, fill, Fits, textOf, total}
-use Rattle.shapes.proofs.All.{all-append, all-left, all-head, all-right}
+use Rattle.plain.proofs.All.{all-append, all-left, all-head, all-right}
 use Rattle.shapes.proofs.Fits.{fits-none, fits-length}
 use Rattle.find_texts.specs.Match.{Then}
-use Rattle.find_texts.specs.Reading.{Ran, Begun, Within, Reading, ReadTo}
+use Rattle.find_texts.specs.Reading.{RanOn, Begun, ReadWithin, Reading, ReadTo}
 use Rattle.find_texts.proofs.Lists.{cut, length-snoc, last-cut}
 
 -- ---- the last block
@@ -61,17 +62,17 @@ last-fits {s} {b} {t} l =
 -- ---- so many characters of the next block
 
 module _ {s : List Block} where
-  pub ran-none : {base : ℕ} {t : List ℕ} → Fits s t → Ran s base 0 t
+  pub ran-none : {base : ℕ} {t : List ℕ} → Fits s t → RanOn s base 0 t
   ran-none {t = t} f = record { front = t; run = []; fits = f; held = none; long = refl; text = sym (append-nil t) }
 
-  pub none-ran : {base : ℕ} {t : List ℕ} → Ran s base 0 t → Fits s t
+  pub none-ran : {base : ℕ} {t : List ℕ} → RanOn s base 0 t → Fits s t
   none-ran {base} {t} x = subst (Fits s) (sym (x .text ∙ ap (λ (l : List ℕ). x .front ++ l) (no (x .run) (x .long)) ∙ append-nil (x .front))) (x .fits)
     where
       no : (l : List ℕ) → length l ≡ 0 → l ≡ []
       no [] h = refl
       no (y ∷ l) h = absurd (omega arith)
 
-  pub ran-more : {base o : ℕ} {t : List ℕ} → Then (Ran s base o) base t → Ran s base (o + 1) t
+  pub ran-more : {base o : ℕ} {t : List ℕ} → Then (RanOn s base o) base t → RanOn s base (o + 1) t
   ran-more {base} {o} {t} x =
       let a = x .in-front in
       record {
@@ -83,7 +84,7 @@ module _ {s : List Block} where
         text = x .text ∙ ap (λ (l : List ℕ). l ++ (x .char ∷ [])) (a .text) ∙ append-assoc (a .front) (a .run) (x .char ∷ []);
       }
 
-  pub more-ran : {base o : ℕ} {t : List ℕ} → Ran s base (o + 1) t → Then (Ran s base o) base t
+  pub more-ran : {base o : ℕ} {t : List ℕ} → RanOn s base (o + 1) t → Then (RanOn s base o) base t
   more-ran {base} {o} {t} x =
       let n = x .long in
       let l = last-cut (x .run) (omega arith) in
@@ -98,7 +99,7 @@ module _ {s : List Block} where
         text = x .text ∙ ap (λ (y : List ℕ). x .front ++ y) (l .2) ∙ sym (append-assoc (x .front) (l .0) (l .1 ∷ []));
       }
 
-  pub ran-length : {base o : ℕ} {t : List ℕ} → Ran s base o t → length t ≤ total s + o
+  pub ran-length : {base o : ℕ} {t : List ℕ} → RanOn s base o t → length t ≤ total s + o
   ran-length {base} {o} {t} x =
       let a = fits-length (x .fits) in
       let b = ap length (x .text) ∙ length-append (x .front) (x .run) in
@@ -107,39 +108,39 @@ module _ {s : List Block} where
 
   -- ---- where a run may end
 
-  pub within-none : {base lower : ℕ} {t : List ℕ} → Fits s t → Within s base lower 0 t
+  pub within-none : {base lower : ℕ} {t : List ℕ} → Fits s t → ReadWithin s base lower 0 t
   within-none f = record { count = 0; few = omega arith; enough = inr refl; ran = ran-none f }
 
-  pub none-within : {base lower : ℕ} {t : List ℕ} → Within s base lower 0 t → Fits s t
-  none-within {base} {lower} {t} x = let f = x .few in let e : x .count ≡ 0 = omega arith in none-ran (subst (λ (n : ℕ). Ran s base n t) e (x .ran))
+  pub none-within : {base lower : ℕ} {t : List ℕ} → ReadWithin s base lower 0 t → Fits s t
+  none-within {base} {lower} {t} x = let f = x .few in let e : x .count ≡ 0 = omega arith in none-ran (subst (λ (n : ℕ). RanOn s base n t) e (x .ran))
 
   -- one character more of the same base
-  then-more : {base lower o : ℕ} {t : List ℕ} (x : Then (Within s base lower o) base t) → Ran s base (x .in-front .count + 1) t
+  then-more : {base lower o : ℕ} {t : List ℕ} (x : Then (ReadWithin s base lower o) base t) → RanOn s base (x .in-front .count + 1) t
   then-more x = ran-more (record { front = x .front; char = x .char; in-front = x .in-front .ran; held = x .held; text = x .text })
 
-  more-then : {base lower o n : ℕ} {t : List ℕ} → n ≤ o → (lower ≤ n) ⊎ (n ≡ o) → Ran s base (n + 1) t → Then (Within s base lower o) base t
+  more-then : {base lower o n : ℕ} {t : List ℕ} → n ≤ o → (lower ≤ n) ⊎ (n ≡ o) → RanOn s base (n + 1) t → Then (ReadWithin s base lower o) base t
   more-then {n = n} l e x =
       let y = more-ran x in
       record { front = y .front; char = y .char; in-front = record { count = n; few = l; enough = e; ran = y .in-front }; held = y .held; text = y .text }
 
-  full-run : {base lower o : ℕ} {t : List ℕ} (x : Within s base lower (o + 1) t) → x .count ≡ o + 1 → Then (Within s base lower o) base t
-  full-run {base} {lower} {o} {t} x e = more-then (omega arith) (inr refl) (subst (λ (n : ℕ). Ran s base n t) e (x .ran))
+  full-run : {base lower o : ℕ} {t : List ℕ} (x : ReadWithin s base lower (o + 1) t) → x .count ≡ o + 1 → Then (ReadWithin s base lower o) base t
+  full-run {base} {lower} {o} {t} x e = more-then (omega arith) (inr refl) (subst (λ (n : ℕ). RanOn s base n t) e (x .ran))
 
-  at-least : {base lower o : ℕ} {t : List ℕ} → lower ≤ o → (x : Within s base lower o t) → lower ≤ x .count
+  at-least : {base lower o : ℕ} {t : List ℕ} → lower ≤ o → (x : ReadWithin s base lower o t) → lower ≤ x .count
   at-least l x = ⊎-elim (λ e. e) (λ e. omega arith) (x .enough)
 
   -- it does not end before its lower; from there on it may
-  pub within-on : {base lower o : ℕ} {t : List ℕ} → o < lower → Then (Within s base lower o) base t → Within s base lower (o + 1) t
+  pub within-on : {base lower o : ℕ} {t : List ℕ} → o < lower → Then (ReadWithin s base lower o) base t → ReadWithin s base lower (o + 1) t
   within-on l x =
       let w = x .in-front in
       let f = w .few in
       let e = ⊎-elim (λ e. absurd (omega arith)) (λ e. e) (w .enough) in
       record { count = w .count + 1; few = omega arith; enough = inr (omega arith); ran = then-more x }
 
-  pub on-within : {base lower o : ℕ} {t : List ℕ} → o < lower → Within s base lower (o + 1) t → Then (Within s base lower o) base t
+  pub on-within : {base lower o : ℕ} {t : List ℕ} → o < lower → ReadWithin s base lower (o + 1) t → Then (ReadWithin s base lower o) base t
   on-within l x = let f = x .few in full-run x (⊎-elim (λ e. omega arith) (λ e. e) (x .enough))
 
-  pub within-more : {base lower o : ℕ} {t : List ℕ} → lower ≤ o → Then (Within s base lower o) base t ⊎ Within s base lower o t → Within s base lower (o + 1) t
+  pub within-more : {base lower o : ℕ} {t : List ℕ} → lower ≤ o → Then (ReadWithin s base lower o) base t ⊎ ReadWithin s base lower o t → ReadWithin s base lower (o + 1) t
   within-more {base} {lower} {o} {t} l x = ⊎-elim
       (λ y.
       let w = y .in-front in
@@ -149,7 +150,7 @@ module _ {s : List Block} where
       (λ y. let f = y .few in record { count = y .count; few = omega arith; enough = inl (at-least l y); ran = y .ran })
       x
 
-  pub more-within : {base lower o : ℕ} {t : List ℕ} → lower ≤ o → Within s base lower (o + 1) t → Then (Within s base lower o) base t ⊎ Within s base lower o t
+  pub more-within : {base lower o : ℕ} {t : List ℕ} → lower ≤ o → ReadWithin s base lower (o + 1) t → Then (ReadWithin s base lower o) base t ⊎ ReadWithin s base lower o t
   more-within {base} {lower} {o} {t} l x =
       let f = x .few in
       let e = ⊎-elim (λ e. e) (λ e. omega arith) (x .enough) in
@@ -158,11 +159,11 @@ module _ {s : List Block} where
       (λ n. inl (full-run x (omega arith)))
       (lt-or-le (x .count) (o + 1))
 
-  pub within-length : {base lower o : ℕ} {t : List ℕ} → Within s base lower o t → length t ≤ total s + o
+  pub within-length : {base lower o : ℕ} {t : List ℕ} → ReadWithin s base lower o t → length t ≤ total s + o
   within-length x = let n = ran-length (x .ran) in let f = x .few in omega arith
 
   -- the block's end
-  pub block-within : (b : Block) {t : List ℕ} → Fits (s ++ (b ∷ [])) t → Within s (b .base) (b .lower) (b .upper) t
+  pub block-within : (b : Block) {t : List ℕ} → Fits (s ++ (b ∷ [])) t → ReadWithin s (b .base) (b .lower) (b .upper) t
   block-within b f =
       let l = fits-last s b f in
       record {
@@ -172,7 +173,7 @@ module _ {s : List Block} where
         ran = record { front = l .front; run = l .run; fits = l .fits; held = l .ran .held; long = refl; text = l .text };
       }
 
-  pub within-block : (b : Block) → b .lower ≤ b .upper → {t : List ℕ} → Within s (b .base) (b .lower) (b .upper) t → Fits (s ++ (b ∷ [])) t
+  pub within-block : (b : Block) → b .lower ≤ b .upper → {t : List ℕ} → ReadWithin s (b .base) (b .lower) (b .upper) t → Fits (s ++ (b ∷ [])) t
   within-block b o x =
       let r = x .ran in
       let n = r .long in
@@ -244,16 +245,16 @@ module _ (s : List Block) (b : Block) where
   read-begun g x = ⊎-elim (run-on g) (run-full g) x
 
 -- what is read with one character more
-pub read-more : {s : List Block} {base lower o : ℕ} {t : List ℕ} → ReadTo s base (o + 1) t → ReadTo s base o t ⊎ Then (Within s base lower o) base t
+pub read-more : {s : List Block} {base lower o : ℕ} {t : List ℕ} → ReadTo s base (o + 1) t → ReadTo s base o t ⊎ Then (ReadWithin s base lower o) base t
 read-more {s} {base} {lower} {o} {t} x = ⊎-elim
     (λ b. inl (inl b))
     (λ r. ⊎-elim
     (λ l. inl (inr (record { count = r .count; few = omega arith; ran = r .ran })))
-    (λ l. let f = r .few in let e : r .count ≡ o + 1 = omega arith in inr (more-then (omega arith) (inr refl) (subst (λ (n : ℕ). Ran s base n t) e (r .ran))))
+    (λ l. let f = r .few in let e : r .count ≡ o + 1 = omega arith in inr (more-then (omega arith) (inr refl) (subst (λ (n : ℕ). RanOn s base n t) e (r .ran))))
     (lt-or-le (r .count) (o + 1)))
     x
 
-pub more-read : {s : List Block} {base lower o : ℕ} {t : List ℕ} → ReadTo s base o t ⊎ Then (Within s base lower o) base t → ReadTo s base (o + 1) t
+pub more-read : {s : List Block} {base lower o : ℕ} {t : List ℕ} → ReadTo s base o t ⊎ Then (ReadWithin s base lower o) base t → ReadTo s base (o + 1) t
 more-read {s} {base} {lower} {o} {t} x = ⊎-elim
     (λ y. ⊎-elim (λ b. inl b) (λ r. let f = r .few in inr (record { count = r .count; few = omega arith; ran = r .ran })) y)
     (λ y. let f = y .in-front .few in inr (record { count = y .in-front .count + 1; few = omega arith; ran = then-more y }))
@@ -266,5 +267,5 @@ read-none {s} {base} {t} x = ⊎-elim
     (λ r.
     let f = r .few in
     let e : r .count ≡ 0 = omega arith in
-    record { rest = []; fits = subst (Fits s) (sym (append-nil t)) (none-ran (subst (λ (n : ℕ). Ran s base n t) e (r .ran))) })
+    record { rest = []; fits = subst (Fits s) (sym (append-nil t)) (none-ran (subst (λ (n : ℕ). RanOn s base n t) e (r .ran))) })
     x

@@ -1,12 +1,13 @@
--- How much of the mark a text ends with: every text has one such number, and one more character makes of it what it makes of the mark's own start. Assumes nothing.
+-- How much of the mark a text ends with: every text has one such number, and one more character makes of it what it
+-- makes of the mark's own start. Assumes nothing.
 use mathlib.Core.Path.{_≡_, refl, sym, ap, _∙_, subst}
 use mathlib.Core.List.{List, [], _∷_, _++_, append-assoc, append-nil}
 use mathlib.Core.Logic.{_⊎_, inl, inr, ⊎-elim}
-use Prim.Native.Nat.{ℕ, zero, suc, _+_, _-_, _≤_, _<_}
+use Prim.Native.Nat.{ℕ, zero, suc, _-_, _≤_, _<_}
 use native.Mathlib.Omega.{arith}
 use lib.ListN.{length, length-append, take, drop, getD, take-append-drop}
 use lib.Seq.{take-suc, length-take-le, drop-at, take-length}
-use Rattle.bases.proofs.Plain.{lt-or-le}
+use Rattle.plain.proofs.Plain.{lt-or-le}
 use Rattle.find_texts.specs.Match.{Ends, Matched}
 use Rattle.find_texts.proofs.Lists.{cut, snoc-front, snoc-last, list-eq, greatest-to}
 

@@ -1,13 +1,14 @@
--- One more character of a base: the lengths that are kept in each state, and those at which the mark is complete. Assumes nothing.
+-- One more character of a base: the lengths that are kept in each state, and those at which the mark is complete.
+-- Assumes nothing.
 use mathlib.Core.Path.{_≡_, refl, sym, ap, _∙_, subst}
 use mathlib.Core.List.{List, [], _∷_, _++_}
-use mathlib.Core.Logic.{_⊎_, ⊎-elim}
+use mathlib.Core.Logic.{⊎-elim}
 use Prim.Native.Nat.{ℕ, _+_, _<_}
 use native.Mathlib.Omega.{arith}
 use lib.ListN.{length}
-use Rattle.bases.proofs.Plain.{lt-or-le}
+use Rattle.plain.proofs.Plain.{lt-or-le}
 use Rattle.find_texts.specs.Occurs.{Lacks}
-use Rattle.find_texts.specs.Match.{Matched, Completes, Then, Kept, Struck, Goes, Stepped}
+use Rattle.find_texts.specs.Match.{Matched, Completes, Then, SomeKept, Struck, Goes, Stepped}
 use Rattle.find_texts.proofs.Lists.{length-snoc}
 use Rattle.find_texts.proofs.Occur.{lacks-front, lacks-end, lacks-snoc, snoc-completes, completes-ends, completes-lacked}
 use Rattle.find_texts.proofs.State.{step-mark, step-text, state-of, whole-ends, ends-whole}
@@ -23,7 +24,7 @@ module _ (mark : List ℕ) where
       (lt-or-le q (length mark))
 
   module _ {T : List ℕ → Type 0} {base : ℕ} where
-    pub kept-step : {r k : ℕ} → Kept mark (Then T base) r k → Stepped mark base (Kept mark T) r k
+    pub kept-step : {r k : ℕ} → SomeKept mark (Then T base) r k → Stepped mark base (SomeKept mark T) r k
     kept-step {r} {k} x =
         let t = x .is in
         let a = subst (Lacks mark) (t .text) (x .lacks) in
@@ -39,10 +40,10 @@ module _ (mark : List ℕ) where
           next = sym (x .long) ∙ ap length (t .text) ∙ length-snoc (t .front) (t .char);
         }
 
-    one-more : {q k r : ℕ} → (x : Kept mark T q k) → (g : Goes mark base q r) → Then T base (x .text ++ (g .char ∷ []))
+    one-more : {q k r : ℕ} → (x : SomeKept mark T q k) → (g : Goes mark base q r) → Then T base (x .text ++ (g .char ∷ []))
     one-more x g = record { front = x .text; char = g .char; in-front = x .is; held = g .held; text = refl }
 
-    pub step-kept : {r k : ℕ} → r < length mark → Stepped mark base (Kept mark T) r k → Kept mark (Then T base) r k
+    pub step-kept : {r k : ℕ} → r < length mark → Stepped mark base (SomeKept mark T) r k → SomeKept mark (Then T base) r k
     step-kept {r} {k} l x =
         let f = x .from in
         let g = x .goes in
@@ -55,7 +56,7 @@ module _ (mark : List ℕ) where
           matched = m;
         }
 
-    pub struck-step : {k : ℕ} → Struck mark (Then T base) k → Stepped mark base (Kept mark T) (length mark) k
+    pub struck-step : {k : ℕ} → Struck mark (Then T base) k → Stepped mark base (SomeKept mark T) (length mark) k
     struck-step {k} x =
         let t = x .is in
         let a = subst (Completes mark) (t .text) (x .completes) in
@@ -72,7 +73,7 @@ module _ (mark : List ℕ) where
           next = sym (x .long) ∙ ap length (t .text) ∙ length-snoc (t .front) (t .char);
         }
 
-    pub step-struck : {k : ℕ} → Stepped mark base (Kept mark T) (length mark) k → Struck mark (Then T base) k
+    pub step-struck : {k : ℕ} → Stepped mark base (SomeKept mark T) (length mark) k → Struck mark (Then T base) k
     step-struck {k} x =
         let f = x .from in
         let g = x .goes in
@@ -85,7 +86,7 @@ module _ (mark : List ℕ) where
 
   -- ---- other texts with the same reading
 
-  pub kept-as : {T U : List ℕ → Type 0} {q k : ℕ} → ((t : List ℕ) → T t → U t) → Kept mark T q k → Kept mark U q k
+  pub kept-as : {T U : List ℕ → Type 0} {q k : ℕ} → ((t : List ℕ) → T t → U t) → SomeKept mark T q k → SomeKept mark U q k
   kept-as f x = record { text = x .text; is = f (x .text) (x .is); long = x .long; lacks = x .lacks; matched = x .matched }
 
   pub struck-as : {T U : List ℕ → Type 0} {k : ℕ} → ((t : List ℕ) → T t → U t) → Struck mark T k → Struck mark U k

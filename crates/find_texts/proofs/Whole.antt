@@ -2,11 +2,11 @@
 use mathlib.Core.Path.{_≡_, refl, sym, ap, _∙_, subst}
 use mathlib.Core.List.{List, [], _∷_, _++_}
 use mathlib.Core.Logic.{_⊎_, inl, inr, ⊎-elim}
-use Prim.Native.Nat.{ℕ, zero, suc, _+_, _<_}
+use Prim.Native.Nat.{ℕ, zero, suc, _<_}
 use native.Mathlib.Omega.{arith}
 use lib.ListN.{length}
-use Rattle.shapes.specs.All.{All}
-use Rattle.shapes.specs.All.All.{none, more}
+use Rattle.plain.specs.All.{All}
+use Rattle.plain.specs.All.All.{none, more}
 use Rattle.shapes.specs.Shape.{Block, Sound, fill, Fits, textOf}
 use Rattle.shapes.proofs.Fits.{fits-none}
 use Rattle.find_texts.specs.Occurs.{Lacks, FirstAt, SomeFirst}

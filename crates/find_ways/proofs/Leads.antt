@@ -9,7 +9,7 @@ use lib.Bits.{bitAnd, bitOr}
 use lib.ListN.{length, getD, take}
 use lib.Seq.{take-suc, length-take-le}
 use Rattle.bases.specs.Base.{Holds, Greatest}
-use Rattle.bases.proofs.Plain.{eq-or-ne}
+use Rattle.plain.proofs.Plain.{eq-or-ne}
 use Rattle.sets.specs.Set.{Exactly}
 use Rattle.sets.proofs.Exact.{exactly-as, both-exactly, either-exactly}
 use Rattle.find_texts.specs.Match.{Ends, Matched, Goes}
@@ -20,9 +20,6 @@ use Rattle.find_borders.proofs.Borders.{border-of}
 use Rattle.find_ways.specs.Ways.{EnterAt, GreatestBelow, Continued, Outside}
 
 module _ (mark : List ℕ) where
-  border-at : (q r : ℕ) → q ≤ length mark → r ≤ length mark → Ends (take r mark) (take q mark) → Border mark q r
-  border-at = border-of mark
-
   -- ---- where a character leads
 
   module _ (q : ℕ) (small : q < length mark) where
@@ -45,7 +42,7 @@ module _ (mark : List ℕ) where
         at x g zero l e = omega arith
         at x g (suc j) l e =
             let y = snoc-ends mark (take q mark) c j (omega arith) e in
-            let z = g .greatest j (x .has j (a .has j (border-at q j (omega arith) (omega arith) (y .0)), b .has j (omega arith, y .1))) in
+            let z = g .greatest j (x .has j (a .has j (border-of mark q j (omega arith) (omega arith) (y .0)), b .has j (omega arith, y .1))) in
             omega arith
 
     pub matched-tops : {w s r : ℕ} (c : ℕ) → r < length mark → Exactly w (Border mark q) → Exactly s (SameAt mark c) → Matched mark (take q mark ++ (c ∷ [])) (r + 1) → Greatest (bitAnd w s) r
@@ -54,7 +51,7 @@ module _ (mark : List ℕ) where
         let e : Ends (take (suc r) mark) (take q mark ++ (c ∷ [])) = rw add-one at (m .ends) in
         let y = snoc-ends mark (take q mark) c r l e in
         record {
-          held = x .has r (a .has r (border-at q r (omega arith) (omega arith) (y .0)), b .has r (l, y .1));
+          held = x .has r (a .has r (border-of mark q r (omega arith) (omega arith) (y .0)), b .has r (l, y .1));
           greatest = λ d h.
               let p = x .so d h in
               let t = b .so d (p .1) in
@@ -96,7 +93,7 @@ module _ (mark : List ℕ) where
         at zero l e = omega arith
         at (suc j) l e =
             let y = snoc-ends mark (take q mark) (o .char) j (omega arith) e in
-            absurd (o .not-in (a .has (o .char) (record { number = j; border = border-at q j (omega arith) (omega arith) (y .0); char = y .1 })))
+            absurd (o .not-in (a .has (o .char) (record { number = j; border = border-of mark q j (omega arith) (omega arith) (y .0); char = y .1 })))
 
   -- ---- to a state, from it and from above
 

@@ -1,6 +1,6 @@
 -- The greatest number of a word, and what a set leaves of a base. Assumes nothing.
 use mathlib.Core.Path.{_≡_, sym, ap, _∙_, subst}
-use mathlib.Core.Logic.{_⊎_, ⊎-elim}
+use mathlib.Core.Logic.{⊎-elim}
 use Prim.Native.Nat.{ℕ, suc, _+_, _-_, _/_, _%_, _^_, _≤_, _<_}
 use native.Mathlib.Omega.{arith}
 use borrow.Author.Tests.{eqb-true, eqb-false}
@@ -8,9 +8,9 @@ use lib.Bits.{bitAnd}
 use lib.Dec.{eqb}
 use lib.Pow.{shr-shr}
 use Rattle.bases.specs.Base.{Holds, Empty, Greatest}
-use Rattle.bases.specs.Tells.{Tells}
+use Rattle.plain.specs.Tells.{Tells}
 use Rattle.bases.proofs.Laws.{halved, none-in-zero, empty-zero}
-use Rattle.bases.proofs.Plain.{lt-or-le}
+use Rattle.plain.proofs.Plain.{lt-or-le}
 use Rattle.bases.proofs.Sets.{some-held}
 use Rattle.sets.specs.Set.{Exactly}
 use Rattle.sets.proofs.Exact.{exactly-as, both-exactly, ones-exactly, held-under}

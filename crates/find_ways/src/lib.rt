@@ -1,16 +1,18 @@
-// Which character leads from which state of the search to which: words with a bit for each state. A state is how many characters of the mark are matched.
+// Which character leads from which state of the search to which: words with a bit for each state. A state is how many
+// characters of the mark are matched.
 use find_borders::add_if;
 use sets::Set;
 ghost use mathlib.Core.Path.{_≡_};
 ghost use Prim.Native.Nat.{_+_, _<_};
 ghost use lib.ListN.{length, getD};
 ghost use Rattle.bases.specs.Base.{Holds, Greatest};
-ghost use Rattle.bases.specs.Tells.{Tells};
+ghost use Rattle.plain.specs.Tells.{Tells};
 ghost use Rattle.sets.specs.Set.{setOf, Exactly};
 ghost use Rattle.find_borders.specs.Borders.{ShortMark, SameAt, Sames, Border, Borders};
 ghost use Rattle.find_ways.specs.Ways.{FallAt, Falls, GreatestBelow, Continued, Seen, Outside, Resets, Allowed, WaysOf};
 
-// The ways that the characters of one base make: the states from which one leads to state 0, and the characters of the mark that are among them.
+// The ways that the characters of one base make: the states from which one leads to state 0, and the characters of the
+// mark that are among them.
 pub struct Ways {
     pub base: Set,
     pub resets: u64,
@@ -61,7 +63,8 @@ fn greatest_below(w: u64, q: usize) -> usize
     sets::highest(w & (1u64 << q) - 1)
 }
 
-// The characters that lead from state q to a state above 0: the mark's next one, and those that lead on from the longest shorter start that it ends with.
+// The characters that lead from state q to a state above 0: the mark's next one, and those that lead on from the
+// longest shorter start that it ends with.
 fn seen_at(mark: &[u8], border: u64, seen: &[u64; 256], q: usize) -> Set
     requires { ⌜ ShortMark (now mark) × (q < length (now mark)) ⌝ }
     requires { ⌜ Exactly border (Border (now mark) q) × Seen (now mark) q (now seen) ⌝ }

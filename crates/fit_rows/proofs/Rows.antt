@@ -1,4 +1,5 @@
--- The laws of rows of places: steps over held characters, what one block adds, and the row of no blocks. Assumes nothing.
+-- The laws of rows of places: steps over held characters, what one block adds, and the row of no blocks. Assumes
+-- nothing.
 use mathlib.Core.Path.{_≡_, sym, ap, _∙_, subst}
 use mathlib.Core.List.{List, [], _∷_}
 use mathlib.Core.Logic.{_⊎_, inl, inr, ⊎-elim}
@@ -8,11 +9,11 @@ use lib.Bits.{bitOr}
 use lib.ListN.{length, getD, take, drop, length-drop, length-take, drop-of-length-le}
 use lib.Seq.{getD-drop, getD-take, drop-drop}
 use Rattle.bases.specs.Base.{Holds}
-use Rattle.bases.proofs.Plain.{lt-or-le}
+use Rattle.plain.proofs.Plain.{lt-or-le}
 use Rattle.sets.specs.Set.{Exactly}
 use Rattle.sets.proofs.Exact.{exactly-as, either-exactly}
 use Rattle.shapes.specs.Shape.{Block, Fits}
-use Rattle.shapes.proofs.All.{all-at, all-of}
+use Rattle.plain.proofs.All.{all-at, all-of}
 use Rattle.shapes.proofs.Fits.{fits-none, none-fits, taken-of-fits, fits-of-taken}
 use Rattle.fit_rows.specs.Rows.{HeldAt, Steps, StepsUpTo, Row}
 

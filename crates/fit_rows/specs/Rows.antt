@@ -1,4 +1,5 @@
--- What the inner functions of fitting answer. A set of places of a text is a number with a bit for each, as `sets` reads it.
+-- What the inner functions of fitting answer. A set of places of a text is a number with a bit for each, as `sets`
+-- reads it.
 use mathlib.Core.Path.{_≡_}
 use mathlib.Core.List.{List, [], _∷_}
 use mathlib.Core.Logic.{_⊎_}
@@ -8,15 +9,17 @@ use Rattle.bases.specs.Base.{baseOf, Holds, codes}
 use Rattle.sets.specs.Set.{Exactly}
 use Rattle.shapes.specs.Shape.{Block, Fits}
 
--- a table has a word for each character and each 64 places of a text, those of the first 64 places first: one for each character, or four
+-- a table has a word for each character and each 64 places of a text, those of the first 64 places first: one for each
+-- character, or four
 abbrev pub Sized : List ℕ → Type 0
 Sized table = (length table ≡ codes) ⊎ (length table ≡ 4 * codes)
 
 -- the row of character c; a word past the table's end is 0
 abbrev pub rowOf : List ℕ → ℕ → ℕ
-rowOf table c = baseOf (getD table c 0 ∷ (getD table (128 + c) 0 ∷ (getD table (256 + c) 0 ∷ (getD table (384 + c) 0 ∷ []))))
+rowOf table c = baseOf (getD table c 0 ∷ (getD table (codes + c) 0 ∷ (getD table (2 * codes + c) 0 ∷ (getD table (3 * codes + c) 0 ∷ []))))
 
--- word i of a table has bit e: of the first k places of t, the one of that bit among the 64 of the word has the word's character
+-- word i of a table has bit e: of the first k places of t, the one of that bit among the 64 of the word has the word's
+-- character
 abbrev pub PlacedAt : List ℕ → ℕ → ℕ → ℕ → Type 0
 PlacedAt t k i e = (e < 64) × ((i / codes * 64 + e < k) × (getD t (i / codes * 64 + e) 0 ≡ i % codes))
 
@@ -29,7 +32,7 @@ pub record Placed (t : List ℕ) (k : ℕ) (table : List ℕ) : Type 0 where
 abbrev pub PlacesOf : List ℕ → List ℕ → Type 0
 PlacesOf t table = (c : ℕ) → c < codes → Exactly (rowOf table c) (λ p. (p < length t) × (getD t p 0 ≡ c))
 
--- the first k characters of t are among those seen, but for bytes above 127
+-- the first k characters of t are among those seen, but for bytes that are no characters
 abbrev pub SeenTo : List ℕ → ℕ → ℕ → Type 0
 SeenTo t k seen = (p : ℕ) → p < k → getD t p 0 < codes → Holds seen (getD t p 0)
 

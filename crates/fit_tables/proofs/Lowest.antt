@@ -8,7 +8,7 @@ use lib.Bits.{bitAnd, and-le-r}
 use lib.Dec.{lit<}
 use Rattle.bases.specs.Base.{Holds, Empty, Least}
 use Rattle.bases.proofs.Laws.{halved, none-in-zero}
-use Rattle.bases.proofs.Plain.{eq-or-ne}
+use Rattle.plain.proofs.Plain.{eq-or-ne}
 use Rattle.sets.specs.Set.{Exactly}
 use Rattle.sets.proofs.Exact.{exactly-as, both-exactly}
 

@@ -9,9 +9,9 @@ use lib.Dec.{lit<}
 use lib.ListN.{length, getD, set, replicate, getD-replicate, List·getD-eq-default}
 use lib.Pow.{pow-lt}
 use lib.Seq.{getD-set-same, getD-set-other}
-use Rattle.bases.specs.Base.{baseOf, Holds, Empty, Least}
+use Rattle.bases.specs.Base.{baseOf, Holds, Empty, Least, codes}
 use Rattle.bases.proofs.Laws.{first-word, next-words, none-in-zero}
-use Rattle.bases.proofs.Plain.{lt-or-le, eq-or-ne}
+use Rattle.plain.proofs.Plain.{lt-or-le, eq-or-ne}
 use Rattle.sets.specs.declared.Set.{Set}
 use Rattle.sets.specs.Set.{setOf, Exactly}
 use Rattle.sets.proofs.Exact.{exactly-as, exactly-at, none-exactly, both-exactly, either-exactly, one-exactly, held-under}
@@ -57,7 +57,7 @@ module _ (R : ℕ → ℕ) (w : ℕ) where
         (g .has (k .number) p (k .held) (k .there));
   }
 
--- a set of numbers below 128 is picked word by word
+-- a set of characters is picked word by word
 module _ (R : ℕ → ℕ) (s : Set) (fa : s .a < 2 ^ 64) (fb : s .b < 2 ^ 64) where
   first : (e : ℕ) → e < 64 → setOf s / 2 ^ e % 2 ≡ s .a / 2 ^ e % 2
   unfolding setOf
@@ -75,7 +75,7 @@ module _ (R : ℕ → ℕ) (s : Set) (fa : s .a < 2 ^ 64) (fb : s .b < 2 ^ 64) w
       record { number = 0 + e; held = subst (Holds (setOf s)) at (first e (held-under 64 fa e (k .held)) ∙ k .held); there = k .there })
       (λ k. record { number = 64 + k .number; held = second (k .number) (held-under 64 fb (k .number) (k .held)) ∙ k .held; there = k .there })
 
-  to-words : ((c : ℕ) → Holds (setOf s) c → c < 128) → (p : ℕ) → Picked R (setOf s) p
+  to-words : ((c : ℕ) → Holds (setOf s) c → c < codes) → (p : ℕ) → Picked R (setOf s) p
       → Picked (λ e. R (0 + e)) (s .a) p ⊎ Picked (λ e. R (64 + e)) (s .b) p
   unfolding Holds
   to-words small p k =
@@ -92,7 +92,7 @@ module _ (R : ℕ → ℕ) (s : Set) (fa : s .a < 2 ^ 64) (fb : s .b < 2 ^ 64) w
       }))
       (lt-or-le c 64)
 
-  pub picked-words : {x y n : ℕ} → ((c : ℕ) → Holds (setOf s) c → c < 128)
+  pub picked-words : {x y n : ℕ} → ((c : ℕ) → Holds (setOf s) c → c < codes)
       → Exactly x (Picked (λ e. R (0 + e)) (s .a)) → Exactly y (Picked (λ e. R (64 + e)) (s .b)) → n ≡ bitOr x y → Exactly n (Picked R (setOf s))
   picked-words {x} {y} small a b e = exactly-as
       (λ p h. from-words p (⊎-elim (λ i. inl (a .so p i)) (λ i. inr (b .so p i)) h))
@@ -115,38 +115,38 @@ placed-none t table e = record {
 
 module _ (t : List ℕ) (k : ℕ) (table : List ℕ) (g : Placed t k table) where
   -- a word that is not that of place k
-  kept-word : (w i : ℕ) → w ≡ getD table i 0 → (i / 128 ≡ k / 64 → i % 128 ≡ getD t k 0 → ⊥) → Exactly w (PlacedAt t (k + 1) i)
+  kept-word : (w i : ℕ) → w ≡ getD table i 0 → (i / codes ≡ k / 64 → i % codes ≡ getD t k 0 → ⊥) → Exactly w (PlacedAt t (k + 1) i)
   kept-word w i z n = exactly-as (λ e h. (h .0, (let y = h .1 .0 in omega arith, h .1 .1))) (λ e h. (h .0, (before e h, h .1 .1))) (exactly-at z (g .words i))
     where
-      before : (e : ℕ) → PlacedAt t (k + 1) i e → i / 128 * 64 + e < k
+      before : (e : ℕ) → PlacedAt t (k + 1) i e → i / codes * 64 + e < k
       before e h =
           let low = h .0 in
           let most = h .1 .0 in
           ⊎-elim
           (λ c. c)
-          (λ c. let there : i / 128 * 64 + e ≡ k = omega arith in absurd (n (omega arith) (sym (h .1 .1) ∙ ap (λ (x : ℕ). getD t x 0) there)))
-          (lt-or-le (i / 128 * 64 + e) k)
+          (λ c. let there : i / codes * 64 + e ≡ k = omega arith in absurd (n (omega arith) (sym (h .1 .1) ∙ ap (λ (x : ℕ). getD t x 0) there)))
+          (lt-or-le (i / codes * 64 + e) k)
 
-  -- a byte above 127 has no row
-  pub placed-other : 128 ≤ getD t k 0 → Placed t (k + 1) table
+  -- a byte that is no character has no row
+  pub placed-other : codes ≤ getD t k 0 → Placed t (k + 1) table
   placed-other h = record { small = g .small; words = λ i. kept-word (getD table i 0) i refl (λ y z. omega arith) }
 
   -- any other character gets the bit b of place k in its row
-  module _ (c at b : ℕ) (low : c < 128) (within : at < length table) (same : getD t k 0 ≡ c) (place : at ≡ k / 64 * 128 + c) (bit : b ≡ 2 ^ (k % 64)) where
+  module _ (c at b : ℕ) (low : c < codes) (within : at < length table) (same : getD t k 0 ≡ c) (place : at ≡ k / 64 * codes + c) (bit : b ≡ 2 ^ (k % 64)) where
     one : Exactly b (λ e. e ≡ k % 64)
     one = exactly-at bit (one-exactly (k % 64))
 
     here : Exactly (bitOr (getD table at 0) b) (PlacedAt t (k + 1) at)
     here = exactly-as so has (either-exactly (getD table at 0) b refl)
       where
-        row : at % 128 ≡ c
+        row : at % codes ≡ c
         row = omega arith
 
         so : (e : ℕ) → Holds (getD table at 0) e ⊎ Holds b e → PlacedAt t (k + 1) at e
         so e = ⊎-elim
             (λ h. let w = g .words at .so e h in (w .0, (let z = w .1 .0 in omega arith, w .1 .1)))
             (λ h. let z = one .so e h in
-            let there : at / 128 * 64 + e ≡ k = omega arith in
+            let there : at / codes * 64 + e ≡ k = omega arith in
             (omega arith, (omega arith, ap (λ (x : ℕ). getD t x 0) there ∙ same ∙ sym row)))
 
         has : (e : ℕ) → PlacedAt t (k + 1) at e → Holds (getD table at 0) e ⊎ Holds b e
@@ -156,7 +156,7 @@ module _ (t : List ℕ) (k : ℕ) (table : List ℕ) (g : Placed t k table) wher
             ⊎-elim
             (λ z. inr (one .has e (omega arith)))
             (λ z. inl (g .words at .has e (h .0, (omega arith, h .1 .1))))
-            (eq-or-ne (at / 128 * 64 + e) k)
+            (eq-or-ne (at / codes * 64 + e) k)
 
     pub placed-more : Placed t (k + 1) (set table at (bitOr (getD table at 0) b))
     placed-more = record {
@@ -182,28 +182,28 @@ unfolding setOf
 placed-rows t table few g c low =
     four-exactly row (record { a = g .small _; b = g .small _; c = g .small _; d = g .small _ })
     (λ e h. let z = h .0 in omega arith)
-    (word 0 c (omega arith) (omega arith)) (word 64 (128 + c) (omega arith) (omega arith))
-    (word 128 (256 + c) (omega arith) (omega arith)) (word 192 (384 + c) (omega arith) (omega arith))
+    (word 0 c (omega arith) (omega arith)) (word 64 (codes + c) (omega arith) (omega arith))
+    (word 128 (2 * codes + c) (omega arith) (omega arith)) (word 192 (3 * codes + c) (omega arith) (omega arith))
   where
     row : Set
-    row = record { a = getD table c 0; b = getD table (128 + c) 0; c = getD table (256 + c) 0; d = getD table (384 + c) 0 }
+    row = record { a = getD table c 0; b = getD table (codes + c) 0; c = getD table (2 * codes + c) 0; d = getD table (3 * codes + c) 0 }
 
-    word : (j i : ℕ) → i / 128 * 64 ≡ j → i % 128 ≡ c → Exactly (getD table i 0) (λ e. (e < 64) × ((j + e < length t) × (getD t (j + e) 0 ≡ c)))
+    word : (j i : ℕ) → i / codes * 64 ≡ j → i % codes ≡ c → Exactly (getD table i 0) (λ e. (e < 64) × ((j + e < length t) × (getD t (j + e) 0 ≡ c)))
     word j i p q =
         subst₂ (λ (x y : ℕ). Exactly (getD table i 0) (λ e. (e < 64) × ((x + e < length t) × (getD t (x + e) 0 ≡ y)))) p q (g .words i)
 
 -- a row of one word
-pub short-row : (table : List ℕ) (c : ℕ) {n : ℕ} → length table ≤ 128 → n ≡ baseOf (getD table c 0 ∷ (0 ∷ [])) → n ≡ rowOf table c
+pub short-row : (table : List ℕ) (c : ℕ) {n : ℕ} → length table ≤ codes → n ≡ baseOf (getD table c 0 ∷ (0 ∷ [])) → n ≡ rowOf table c
 unfolding baseOf
-short-row table c short e = e ∙ (λ m. baseOf (getD table c 0 ∷ (past 128 (omega arith) m ∷ (past 256 (omega arith) m ∷ (past 384 (omega arith) m ∷ [])))))
+short-row table c short e = e ∙ (λ m. baseOf (getD table c 0 ∷ (past codes (omega arith) m ∷ (past (2 * codes) (omega arith) m ∷ (past (3 * codes) (omega arith) m ∷ [])))))
   where
-    past : (j : ℕ) → 128 ≤ j → 0 ≡ getD table (j + c) 0
+    past : (j : ℕ) → codes ≤ j → 0 ≡ getD table (j + c) 0
     past j h = sym (List·getD-eq-default table 0 (let z : length table ≤ j + c = omega arith in z))
 
 -- ---- one character more is seen
 
 module _ (t : List ℕ) (k seen : ℕ) (s : SeenTo t k seen) where
-  pub seen-other : 128 ≤ getD t k 0 → SeenTo t (k + 1) seen
+  pub seen-other : codes ≤ getD t k 0 → SeenTo t (k + 1) seen
   seen-other h p l c = ⊎-elim
       (λ d. s p d c)
       (λ d. let same : getD t p 0 ≡ getD t k 0 = ap (λ (q : ℕ). getD t q 0) (let z : p ≡ k = omega arith in z) in absurd (omega arith))
@@ -219,7 +219,7 @@ module _ (t : List ℕ) (k seen : ℕ) (s : SeenTo t k seen) where
 
 -- ---- the places whose character a base holds
 
-pub held-places : (t table : List ℕ) (base seen : ℕ) {chars held : ℕ} → PlacesOf t table → SeenTo t (length t) seen → ((c : ℕ) → Holds base c → c < 128)
+pub held-places : (t table : List ℕ) (base seen : ℕ) {chars held : ℕ} → PlacesOf t table → SeenTo t (length t) seen → ((c : ℕ) → Holds base c → c < codes)
     → chars ≡ bitAnd base seen → Exactly held (Picked (rowOf table) chars) → HeldAt base t held
 held-places t table base seen {chars} m s low e = exactly-as so has
   where

@@ -8,21 +8,31 @@ ghost use Rattle.bases.specs.Base.{Holds, codes};
 ghost use Rattle.sets.specs.Set.{setOf, Exactly};
 ghost use Rattle.fit_rows.specs.Rows.{rowOf, Sized, Placed, PlacesOf, SeenTo, Picked};
 
-// Adds place p to the row of its character c in a table, and c to the characters seen. A byte above 127 has no row.
+// How many characters there are, each with a row.
+pub const CODES: usize = 128;
+
+// Where the words of the third and of the fourth 64 places stand; those of the second stand at CODES.
+const THIRD: usize = 2 * CODES;
+
+const FOURTH: usize = 3 * CODES;
+
+// Adds place p to the row of its character c in a table, and c to the characters seen. A byte that is no character has
+// no row.
 fn add_place(table: &mut [u64], seen: Set, c: usize, p: usize) -> Set
     requires { ⌜ p / 64 < length (now table) / codes ⌝ }
     ensures { λ _. ⌜ ((t : List ℕ) → getD t p 0 ≡ c → Placed t p (now (table .entry)) → Placed t (p + 1) (now (table .exit))) ⌝ }
     ensures { λ r. ⌜ ((t : List ℕ) → getD t p 0 ≡ c → SeenTo t p (setOf seen) → SeenTo t (p + 1) (setOf r)) ⌝ }
 {
-    if 128 <= c {
+    if CODES <= c {
         return seen;
     }
-    let at = p / 64 * 128 + c;
+    let at = p / 64 * CODES + c;
     table[at] = table[at] | 1u64 << (p % 64);
     sets::either(seen, sets::single(c))
 }
 
-// Adds each place of a text to the row of its character, and answers which characters there are. The table has a word for each character and each 64 places.
+// Adds each place of a text to the row of its character, and answers which characters there are. The table has a word
+// for each character and each 64 places.
 pub fn add_places(text: &[u8], table: &mut [u64]) -> Set
     requires { ⌜ length (now text) ≤ 250 ⌝ }
     requires { ⌜ length (now text) ≤ length (now table) / codes * 64 ⌝ }
@@ -45,14 +55,14 @@ fn row_of(table: &[u64], c: usize) -> Set
     requires { ⌜ c < codes ⌝ }
     ensures { λ r. ⌜ setOf r ≡ rowOf (now (table .entry)) c ⌝ }
 {
-    if table.len() <= 128 {
+    if table.len() <= CODES {
         return sets::two_words(table[c], 0);
     }
     Set {
         a: table[c],
-        b: table[128 + c],
-        c: table[256 + c],
-        d: table[384 + c],
+        b: table[CODES + c],
+        c: table[THIRD + c],
+        d: table[FOURTH + c],
     }
 }
 

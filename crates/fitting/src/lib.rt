@@ -1,10 +1,11 @@
-// Whether a text fits a shape: for each block, from the last to the first, the row of the places of the text from which the rest fits the blocks from there on.
+// Whether a text fits a shape: for each block, from the last to the first, the row of the places of the text from which
+// the rest fits the blocks from there on.
 use answers::Checked;
 use answers::Fit;
 use sets::Set;
 ghost use Prim.Native.Nat.{_/_, _≤_, _<_};
 ghost use lib.ListN.{length};
-ghost use Rattle.bases.specs.Tells.{Tells};
+ghost use Rattle.plain.specs.Tells.{Tells};
 ghost use Rattle.sets.specs.Set.{setOf};
 ghost use Rattle.shapes.specs.Shape.{Sound, Fits};
 ghost use Rattle.shapes.specs.Lent.{shapeOf, Accepted};
@@ -38,11 +39,11 @@ fn fits_blocks(shape: &[u64], text: &[u8]) -> bool
     ensures { λ r. ⌜ Tells r (Fits (shapeOf (now (shape .entry))) (now (text .entry))) ⌝ }
 {
     if text.len() <= 64 {
-        let mut short = [0u64; 128];
+        let mut short = [0u64; fit_tables::CODES];
         let seen = fit_tables::add_places(text, &mut short);
         return fits_by(shape, text, &short, seen);
     }
-    let mut table = [0u64; 512];
+    let mut table = [0u64; 4 * fit_tables::CODES];
     let seen = fit_tables::add_places(text, &mut table);
     fits_by(shape, text, &table, seen)
 }

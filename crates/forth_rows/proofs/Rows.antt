@@ -3,12 +3,12 @@ use mathlib.Core.Path.{_≡_, refl, sym, _∙_, subst}
 use mathlib.Core.Bool.{true, false}
 use mathlib.Core.List.{List}
 use mathlib.Core.Logic.{⊎-elim}
-use Prim.Native.Nat.{ℕ, _+_, _-_, _≤_, _<_}
+use Prim.Native.Nat.{ℕ, _+_, _≤_, _<_}
 use native.Mathlib.Omega.{arith}
 use borrow.Author.Tests.{lt-leb, le-leb}
 use lib.Bits.{bitOr}
 use lib.Dec.{leb}
-use Rattle.bases.proofs.Plain.{lt-or-le}
+use Rattle.plain.proofs.Plain.{lt-or-le}
 use Rattle.sets.specs.Set.{Exactly}
 use Rattle.sets.proofs.Exact.{exactly-at}
 use Rattle.shapes.specs.Shape.{Block}

@@ -20,7 +20,8 @@ pub record BlockRows (X Y : ℕ → Block) (p : ℕ) (b : Block) (rows : List �
   pub row : (h : ℕ) → h < b .upper → Exactly (rowIn rows (p + h)) (λ j. PadPath X Y (p + h) j 0 0)
   pub next-is : Exactly next (Entered X Y (p + b .upper))
 
--- For each X that has the block there and each Y whose ends of runs are the steps from Z to E, if the block's first position is entered by s.
+-- For each X that has the block there and each Y whose ends of runs are the steps from Z to E, if the block's first
+-- position is entered by s.
 pub record Follows (Z E : ℕ → ℕ) (k mine waits p : ℕ) (b : Block) (s : ℕ) (P : (ℕ → Block) → (ℕ → Block) → Type 0) : Type 0 where
   pub holds : (X Y : ℕ → Block) → Zones Y Z E k → BlockIn X p b → Shares Y (b .base) mine waits → Exactly s (Entered X Y p) → P X Y
 

@@ -9,7 +9,8 @@ ghost use Rattle.rows.specs.Row.{rowIn, rowCount};
 ghost use Rattle.rows.specs.Steps.{InTurn, Together};
 ghost use Rattle.forth_rows.specs.Rows.{BlockRows, Follows, RowsKept};
 
-// In four words: the rows of the block b from position p on, which s enters; gives what the next position is entered by.
+// In four words: the rows of the block b from position p on, which s enters; gives what the next position is entered
+// by.
 pub fn forth_wide(
     zones: &[u64],
     ends: &[u64],

@@ -1,4 +1,5 @@
--- For any one book and lent buffers, two permitted outcomes of the call are equal: the number, and every byte of both buffers. Assumes nothing.
+-- For any one book and lent buffers, two permitted outcomes of the call are equal: the number, and every byte of both
+-- buffers. Assumes nothing.
 use mathlib.Core.Path.{_≡_, sym, ap, _∙_}
 use mathlib.Core.List.{List}
 use Prim.Native.Nat.{ℕ}

@@ -1,4 +1,5 @@
--- Document 02, order 4: the call of the bench host. It lends a book's bytes, a report buffer and the work buffer, and gets one signed number.
+-- Document 02, order 4: the call of the bench host. It lends a book's bytes, a report buffer and the work buffer, and
+-- gets one signed number.
 use mathlib.Core.Path.{_≡_}
 use mathlib.Core.List.{List}
 use Prim.Native.Nat.{ℕ}
@@ -18,7 +19,8 @@ abbrev pub handed : Written → ℤ
 handed (Text n) = pos n
 handed (Refused r) = negated r
 
--- The number is that of an answer of running the book's bytes with lent work; that run says what is left in both buffers.
+-- The number is that of an answer of running the book's bytes with lent work; that run says what is left in both
+-- buffers.
 pub record HostPromise (book report work report′ work′ : List ℕ) (z : ℤ) : Type 0 where
   pub answer : Written
   pub runs : LentPromise book report work report′ work′ answer

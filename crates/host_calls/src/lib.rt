@@ -2,7 +2,8 @@
 use answers::Written;
 ghost use Rattle.host_calls.specs.Host.{HostPromise};
 
-// Runs a book file to its report with a lent work buffer. It hands back the report's length, or the refusal's number made negative.
+// Runs a book file to its report with a lent work buffer. It hands back the report's length, or the refusal's number
+// made negative.
 pub fn run(book: &[u8], report: &mut [u8], work: &mut [u8]) -> i64
     ensures { λ z. ⌜ HostPromise (now (book .entry)) (now (report .entry)) (now (work .entry)) (now (report .exit)) (now (work .exit)) z ⌝ }
 {

@@ -1,5 +1,5 @@
--- The frame: a rule that looks only at some blocks, picked by their places in the order in which it reads them, has over all blocks the hull of the picked
--- ones laid back over the rest. Both ways, for every rule. Assumes nothing.
+-- The frame: a rule that looks only at some blocks, picked by their places in the order in which it reads them, has
+-- over all blocks the hull of the picked ones laid back over the rest. Both ways, for every rule. Assumes nothing.
 use mathlib.Core.Path.{_≡_, sym, ap, _∙_, subst}
 use mathlib.Core.List.{List, [], _∷_}
 use mathlib.Core.Logic.{⊎-elim}
@@ -7,10 +7,10 @@ use Prim.Native.Nat.{ℕ, _<_}
 use native.Mathlib.Omega.{arith}
 use lib.ListN.{length, getD, set, length-set}
 use lib.Seq.{ext-getD, getD-set-same, getD-set-other}
-use Rattle.bases.proofs.Plain.{eq-or-ne}
-use Rattle.shapes.specs.All.{All, more}
+use Rattle.plain.proofs.Plain.{eq-or-ne}
+use Rattle.plain.specs.All.{All, more}
 use Rattle.shapes.specs.Shape.{Block, Sound, Run, Filling, fill, done, noBlock}
-use Rattle.shapes.proofs.All.{all-at}
+use Rattle.plain.proofs.All.{all-at}
 use Rattle.hulls.specs.Hull.{Satisfies, None, Taken, Tight, Hull}
 use Rattle.hulls.proofs.Fill.{filling-size, filling-at, filling-of}
 use Rattle.hulls.proofs.Tight.{tight-same, some-run, tight-run}

@@ -1,11 +1,12 @@
--- The laws of the hull, for every rule: it is determined, keeps every choice that satisfies the rule, grows with the blocks, and is its own hull. Assumes nothing.
+-- The laws of the hull, for every rule: it is determined, keeps every choice that satisfies the rule, grows with the
+-- blocks, and is its own hull. Assumes nothing.
 use mathlib.Core.Path.{_≡_, refl, sym, ap, _∙_}
 use mathlib.Core.List.{List, [], _∷_}
 use Prim.Native.Nat.{ℕ, zero, suc, _≤_, _<_}
 use native.Mathlib.Omega.{arith}
 use lib.ListN.{length, getD}
 use lib.Seq.{ext-getD}
-use Rattle.shapes.specs.All.{All, more}
+use Rattle.plain.specs.All.{All, more}
 use Rattle.shapes.specs.Shape.{Block, Sound, Run, Filling, noBlock}
 use Rattle.hulls.specs.Hull.{Satisfies, None, Taken, Hull, Outcome, none, shapes, NarrowsTo, to-none, to-shapes}
 use Rattle.hulls.specs.Book.{Within, end, next}
@@ -27,6 +28,13 @@ one-outcome (to-none n) (to-none m) = refl
 one-outcome (to-none n) (to-shapes h) = absurd (hull-or-none h n)
 one-outcome (to-shapes h) (to-none n) = absurd (hull-or-none h n)
 one-outcome (to-shapes h) (to-shapes j) = ap shapes (one-hull h j)
+
+-- an outcome is none, or some shapes
+pub same-shapes : {H J : List Block} → shapes H ≡ shapes J → H ≡ J
+same-shapes e = cc
+
+pub not-none : {H : List Block} → none ≡ shapes H → ⊥
+not-none e = let z : _≡_ {A = ℕ} 0 1 = cc in omega arith
 
 -- ---- no more room, and no choice lost
 

@@ -6,9 +6,9 @@ use Prim.Native.Nat.{ℕ, zero, suc, _+_, _≤_, _<_}
 use native.Mathlib.Omega.{arith}
 use lib.ListN.{length, getD, take, drop, set, length-set}
 use lib.Seq.{drop-cons, getD-set-same, getD-set-other, sets}
-use Rattle.bases.proofs.Plain.{eq-or-ne}
-use Rattle.shapes.specs.All.{All, more}
-use Rattle.shapes.proofs.All.{all-append, all-map}
+use Rattle.plain.proofs.Plain.{eq-or-ne}
+use Rattle.plain.specs.All.{All, more}
+use Rattle.plain.proofs.All.{all-append, all-map}
 
 -- the place i is none of these
 abbrev pub Off : List ℕ → ℕ → Type 0

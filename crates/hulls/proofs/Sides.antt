@@ -1,4 +1,5 @@
--- Where each side of a pair asks of the other only that some partner is there, the pair's hull is the two sides' hulls. Assumes nothing.
+-- Where each side of a pair asks of the other only that some partner is there, the pair's hull is the two sides' hulls.
+-- Assumes nothing.
 use mathlib.Core.Path.{_≡_, sym, ap, _∙_, subst}
 use mathlib.Core.List.{List, [], _++_}
 use mathlib.Core.Logic.{⊎-elim}
@@ -6,7 +7,7 @@ use Prim.Native.Nat.{ℕ, _+_, _-_, _<_}
 use native.Mathlib.Omega.{arith}
 use lib.ListN.{length, getD, take, drop, length-append, take-append-drop, List·getD-append}
 use lib.Seq.{getD-append-add, getD-take, getD-drop}
-use Rattle.bases.proofs.Plain.{lt-or-le}
+use Rattle.plain.proofs.Plain.{lt-or-le}
 use Rattle.shapes.specs.Shape.{Block, Filling, noBlock}
 use Rattle.hulls.specs.Hull.{Satisfies, Some, Taken, Tight, Hull}
 use Rattle.hulls.proofs.Fill.{filling-size, join, split-first, split-second}

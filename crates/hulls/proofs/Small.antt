@@ -6,9 +6,9 @@ use native.Mathlib.Nat.{pow-succ'}
 use native.Mathlib.Numerals.{add-one}
 use native.Mathlib.Omega.{arith}
 use lib.Pow.{shr-lt}
-use Rattle.bases.specs.Base.{Holds, Empty}
+use Rattle.bases.specs.Base.{Holds, Empty, codes}
 use Rattle.bases.proofs.Laws.{halved, empty-zero, none-in-zero}
-use Rattle.shapes.specs.All.{All, more}
+use Rattle.plain.specs.All.{All, more}
 use Rattle.shapes.specs.Shape.{Block, Small}
 use Rattle.hulls.specs.Book.{Within, end, next}
 
@@ -30,4 +30,4 @@ sub-small (suc k) a b l s =
 
 pub within-small : {H S : List Block} → Within H S → All Small S → All Small H
 within-small end k = All.none
-within-small (next {h} {b} p w) (more k l) = more (sub-small 128 (h .base) (b .base) k (p .base)) (within-small w l)
+within-small (next {h} {b} p w) (more k l) = more (sub-small codes (h .base) (b .base) k (p .base)) (within-small w l)

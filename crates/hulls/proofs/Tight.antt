@@ -1,4 +1,5 @@
--- The block of some runs: it is determined, it grows with the runs, and a sound block is that of its own runs. Assumes nothing.
+-- The block of some runs: it is determined, it grows with the runs, and a sound block is that of its own runs. Assumes
+-- nothing.
 use mathlib.Core.Path.{_≡_, refl, sym}
 use mathlib.Core.List.{List, [], _∷_, List·Memᴰ·head, List·Memᴰ·tail, List·Memᴰ·not-nil}
 use Prim.Native.Nat.{ℕ, zero, suc, _≤_}
@@ -6,7 +7,7 @@ use native.Mathlib.Omega.{arith}
 use lib.ListN.{length, replicate, length-replicate}
 use Rattle.bases.specs.Base.{Holds, Empty, Meets}
 use Rattle.bases.proofs.Sets.{meets-of, meets-not}
-use Rattle.shapes.specs.All.{All, more}
+use Rattle.plain.specs.All.{All, more}
 use Rattle.shapes.specs.Shape.{Block, Sound, Run}
 use Rattle.hulls.specs.Hull.{Occurs, Tight}
 use Rattle.hulls.specs.Book.{Inside}

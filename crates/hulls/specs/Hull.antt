@@ -1,6 +1,6 @@
 -- Document 01, "Narrowing", for every relation.
--- The shapes of all texts are laid end to end as one list of blocks S. A choice of one filling for each text is then one filling of S.
--- A rule, whatever it relates, is a property P of the runs chosen.
+-- The shapes of all texts are laid end to end as one list of blocks S. A choice of one filling for each text is then
+-- one filling of S. A rule, whatever it relates, is a property P of the runs chosen.
 use mathlib.Core.Path.{_≡_}
 use mathlib.Core.List.{List, [], List·Memᴰ}
 use Prim.Native.Nat.{ℕ, _<_}
@@ -36,15 +36,17 @@ pub record Taken (P : List (List ℕ) → Type 0) (S : List Block) (i : ℕ) (r 
 abbrev pub Occurs : ℕ → List ℕ → Type 0
 Occurs c r = List·Memᴰ c r
 
--- b is the block of the runs that have R: its base is the characters that they hold, its lower and upper their least and greatest length.
--- So each of them is a run of b, each character of b stands in one of them, and one is as short, one as long as b allows.
+-- b is the block of the runs that have R: its base is the characters that they hold, its lower and upper their least
+-- and greatest length. So each of them is a run of b, each character of b stands in one of them, and one is as short,
+-- one as long as b allows.
 pub record Tight (R : List ℕ → Type 0) (b : Block) : Type 0 where
   pub covers : (r : List ℕ) → R r → Run b r
   pub held : (c : ℕ) → Holds (b .base) c → (r : List ℕ) × R r × Occurs c r
   pub shortest : (r : List ℕ) × R r × (length r ≡ b .lower)
   pub longest : (r : List ℕ) × R r × (length r ≡ b .upper)
 
--- Some choice satisfies the rule, and H are the new blocks, as many as S: block i of H is the block of the runs that block i of S takes in such choices.
+-- Some choice satisfies the rule, and H are the new blocks, as many as S: block i of H is the block of the runs that
+-- block i of S takes in such choices.
 pub record Hull (P : List (List ℕ) → Type 0) (S H : List Block) : Type 0 where
   pub size : length H ≡ length S
   pub some : Some P S

@@ -1,4 +1,5 @@
--- The two texts of a relation may change places, whatever it relates: the same choices satisfy it, and the hull's two parts change places. Assumes nothing.
+-- The two texts of a relation may change places, whatever it relates: the same choices satisfy it, and the hull's two
+-- parts change places. Assumes nothing.
 use mathlib.Core.Path.{_≡_, sym, ap, ap₂, _∙_, subst}
 use mathlib.Core.Bool.{Bool}
 use mathlib.Core.List.{List, [], _++_}
@@ -7,14 +8,14 @@ use Prim.Native.Nat.{ℕ, _+_, _-_, _<_}
 use native.Mathlib.Omega.{arith}
 use lib.ListN.{length, getD, take, drop, length-append, take-append-drop, List·getD-append}
 use lib.Seq.{getD-append-add}
-use Rattle.bases.proofs.Plain.{lt-or-le}
+use Rattle.plain.proofs.Plain.{lt-or-le}
 use Rattle.shapes.specs.Shape.{Block, noBlock}
 use Rattle.shapes.specs.Lent.{shapeOf}
 use Rattle.hulls.specs.Hull.{Pairs, Satisfies, None, Taken, Tight, Hull}
 use Rattle.hulls.proofs.Fill.{filling-size, split-first, split-second, pair-satisfies}
 use Rattle.hulls.proofs.Hull.{same-rule, same-none}
 use Rattle.hulls.proofs.Tight.{tight-same}
-use Rattle.rests.specs.Walk.{Same}
+use Rattle.walks.specs.Walk.{Same}
 use Rattle.pairs.specs.Narrow.{NarrowAnswer}
 
 -- an element of the second of two lists, once the second stands first

@@ -4,10 +4,10 @@ ghost use mathlib.Core.List.{_++_};
 ghost use Prim.Native.Nat.{_+_, _≤_};
 ghost use lib.ListN.{length, take, drop};
 ghost use Rattle.shapes.specs.Lent.{Whole};
-ghost use Rattle.rests.specs.Walk.{Same};
-ghost use Rattle.rows.specs.Row.{layoutSize};
+ghost use Rattle.walks.specs.Walk.{Same};
 ghost use Rattle.pairs.specs.Narrow.{NarrowAnswer};
 ghost use Rattle.laying.specs.Laid.{replaced};
+ghost use Rattle.shapes.specs.Shape.{blockCount, mostBlocks, lineBlocks};
 
 // Lays the line that y and z make: the numbers of y, and those of z behind them. Gives its length.
 pub fn lay_line(y: &[u64], z: &[u64], line: &mut [u64]) -> usize
@@ -35,7 +35,7 @@ pub fn lay_parts(line: &[u64], n: usize, out_y: &mut [u64], out_z: &mut [u64])
 // first is held against all its blocks; the line may have 64.
 pub fn narrow_line(line: &[u64], x: &[u64], new: &mut [u64], out_x: &mut [u64]) -> bool
     requires { ⌜ Whole (now line) × Whole (now x) ⌝ }
-    requires { ⌜ (length (now line) ≤ 256) × (length (now x) ≤ layoutSize) ⌝ }
+    requires { ⌜ (blockCount (now line) ≤ lineBlocks) × (blockCount (now x) ≤ mostBlocks) ⌝ }
     requires { ⌜ (length (now line) ≤ length (now new)) × (length (now x) ≤ length (now «out_x»)) ⌝ }
     ensures { λ r. ⌜ NarrowAnswer Same (now (line .entry)) (now (x .entry)) (now (new .entry)) (now («out_x» .entry)) (now (new .exit)) (now («out_x» .exit)) r ⌝ }
 {

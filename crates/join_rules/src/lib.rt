@@ -2,7 +2,7 @@
 use book_steps::Applied;
 use rules::Rule;
 ghost use mathlib.Core.Path.{_≡_};
-ghost use Prim.Native.Nat.{_≤_};
+ghost use Prim.Native.Nat.{_≤_, _*_};
 ghost use lib.ListN.{length};
 ghost use Rattle.texts.specs.Kind.{joinKind};
 ghost use Rattle.shapes.specs.Lent.{shapeOf};
@@ -10,6 +10,7 @@ ghost use Rattle.joins.specs.Join.{JoinAnswer};
 ghost use Rattle.books.specs.Refused.{SoundRule};
 ghost use Rattle.books.specs.Code.{numbersIn};
 ghost use Rattle.book_steps.specs.Step.{Texts, RuleApplied};
+ghost use Rattle.shapes.specs.Shape.{mostBlocks, blockSize};
 
 // Narrows the three texts of a join, into the first numbers of x, y and z.
 fn narrow_three(
@@ -23,7 +24,7 @@ fn narrow_three(
     requires { ⌜ Texts (now counts) (now numbers) ⌝ }
     requires { ⌜ SoundRule (now counts) (shapeOf (now numbers)) rule ⌝ }
     requires { ⌜ rule .kind ≡ joinKind ⌝ }
-    requires { ⌜ (128 ≤ length (now x)) × (128 ≤ length (now y)) × (128 ≤ length (now z)) ⌝ }
+    requires { ⌜ (mostBlocks * blockSize ≤ length (now x)) × (mostBlocks * blockSize ≤ length (now y)) × (mostBlocks * blockSize ≤ length (now z)) ⌝ }
     ensures { λ r. ⌜ JoinAnswer (numbersIn (now (counts .entry)) (now (numbers .entry)) (rule .a)) (numbersIn (now (counts .entry)) (now (numbers .entry)) (rule .b))
         (numbersIn (now (counts .entry)) (now (numbers .entry)) (rule .c)) (now (x .entry)) (now (y .entry)) (now (z .entry)) (now (x .exit)) (now (y .exit)) (now (z .exit)) r ⌝ }
 {
@@ -53,9 +54,9 @@ pub fn apply_three(counts: &[u64], numbers: &mut [u64], rule: Rule) -> Applied
     requires { ⌜ rule .kind ≡ joinKind ⌝ }
     ensures { λ r. ⌜ RuleApplied (now (counts .entry)) rule (now (numbers .entry)) (now (numbers .exit)) r ⌝ }
 {
-    let mut x = [0u64; 128];
-    let mut y = [0u64; 128];
-    let mut z = [0u64; 128];
+    let mut x = [0u64; shapes::MOST * shapes::SIZE];
+    let mut y = [0u64; shapes::MOST * shapes::SIZE];
+    let mut z = [0u64; shapes::MOST * shapes::SIZE];
     if !narrow_three(counts, numbers, rule, &mut x, &mut y, &mut z) {
         return Applied::None;
     }

@@ -1,4 +1,5 @@
--- A join is equality of the first text and the line of the other two, so its hull is that of equality, cut where the second text ends. Assumes nothing.
+-- A join is equality of the first text and the line of the other two, so its hull is that of equality, cut where the
+-- second text ends. Assumes nothing.
 use mathlib.Core.Path.{_≡_, refl, sym, ap, ap₂, _∙_, subst, subst₂}
 use mathlib.Core.Bool.{true, false, true≢false, false≢true}
 use mathlib.Core.List.{List, _++_}
@@ -6,11 +7,11 @@ use Prim.Native.Nat.{ℕ, _+_, _*_, _≤_}
 use native.Mathlib.Omega.{arith}
 use lib.ListN.{length, take, drop, length-append, length-drop, take-append-drop}
 use lib.Seq.{take-at, length-take-le}
-use Rattle.shapes.specs.Shape.{Block, textOf}
+use Rattle.shapes.specs.Shape.{Block, textOf, blockSize}
 use Rattle.shapes.specs.Lent.{shapeOf, wordsOf}
 use Rattle.shapes.proofs.Numbers.{words-length}
 use Rattle.extremes.proofs.Write.{text-append}
-use Rattle.rests.specs.Walk.{Same}
+use Rattle.walks.specs.Walk.{Same}
 use Rattle.hulls.specs.Hull.{Pairs, None, Hull}
 use Rattle.hulls.proofs.Hull.{same-rule, same-none}
 use Rattle.pairs.specs.Narrow.{Narrows, NoPair}
@@ -27,7 +28,8 @@ use Rattle.joins.proofs.Line.{words-first, words-take, words-drop, whol
 pub cut : (n : ℕ) (f : List (List ℕ)) → textOf f ≡ textOf (take n f) ++ textOf (drop n f)
 cut n f = ap textOf (sym (take-append-drop n f)) ∙ text-append (take n f) (drop n f)
 
--- the shapes X of the first text and L of the line, of which m blocks are the second text's; I is what is left of L, and J of X
+-- the shapes X of the first text and L of the line, of which m blocks are the second text's; I is what is left of L,
+-- and J of X
 module _ (X L : List Block) (m : ℕ) where
   pub join-none : None (Pairs Same (length L)) (L ++ X) → None (Triples (length X) m) (X ++ L)
   join-none n = same-none (λ f x p. cut m (drop (length X) f) ∙ sym p) (turned-none (Turned Same) X L n)
@@ -66,7 +68,7 @@ module _ {xs ys zs : List ℕ} (ok : JoinAccepted xs ys zs) where
     within : length (shapeOf ys) ≤ length (h .first)
     within = let e = blocks in omega arith
 
-    of-second : length (shapeOf ys) * 4 ≡ length ys
+    of-second : length (shapeOf ys) * blockSize ≡ length ys
     of-second = whole-length ys (ok .second .right .whole)
 
     second-long : length (wordsOf second-shape) ≡ length ys

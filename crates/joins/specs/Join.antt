@@ -1,5 +1,5 @@
--- Document 02, order 3: what narrowing a join promises: "all three are narrowed over triples of fillings that satisfy it". Lent: three shapes xs, ys and zs,
--- work, three outputs ox, oy and oz; with ′ they are as handed back.
+-- Document 02, order 3: what narrowing a join promises: "all three are narrowed over triples of fillings that satisfy
+-- it". Lent: three shapes xs, ys and zs, work, three outputs ox, oy and oz; with ′ they are as handed back.
 use mathlib.Core.Path.{_≡_}
 use mathlib.Core.Bool.{Bool, true, false}
 use mathlib.Core.List.{List, _++_}
@@ -18,7 +18,8 @@ use Rattle.joins.specs.Refused.{JoinAccepted, JoinRoom, JoinRefused}
 abbrev pub Triples : ℕ → ℕ → List (List ℕ) → Type 0
 Triples n m f = textOf (take n f) ≡ textOf (take m (drop n f)) ++ textOf (drop m (drop n f))
 
--- The new shapes are the hull of the triples of fillings; they stand at the start of the outputs, the entries past them stay.
+-- The new shapes are the hull of the triples of fillings; they stand at the start of the outputs, the entries past them
+-- stay.
 pub record JoinNarrows (xs ys zs ox oy oz ox′ oy′ oz′ : List ℕ) : Type 0 where
   pub first : List Block
   pub second : List Block

@@ -19,8 +19,8 @@ pub fn narrow_accepted(
         (now («out_x» .exit)) (now («out_y» .exit)) (now («out_z» .exit)) r ⌝ }
 {
     let n = y.len();
-    let mut line = [0u64; 256];
-    let mut new = [0u64; 256];
+    let mut line = [0u64; 2 * shapes::MOST * shapes::SIZE];
+    let mut new = [0u64; 2 * shapes::MOST * shapes::SIZE];
     let k = join_lines::lay_line(y, z, &mut line);
     if !join_lines::narrow_line(&line[..k], x, &mut new, out_x) {
         return false;

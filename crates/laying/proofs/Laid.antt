@@ -8,13 +8,6 @@ use lib.Seq.{take-at, drop-at, drop-drop, length-take-le, take-length, take-appe
 use Rattle.laying.specs.Laid.{replaced}
 
 module _ {A : Type 0} where
-  -- in the middle of three lists
-  pub replaced-middle : (a b c x : List A) (m : ℕ) → length a ≡ m → length x ≡ length b → replaced m x (a ++ (b ++ c)) ≡ a ++ (x ++ c)
-  replaced-middle a b c x m e f =
-      let past : length (a ++ b) ≡ m + length x = length-append a b ∙ omega arith in
-      ap₂ (λ (s t : List A). s ++ (x ++ t)) (take-at a (b ++ c) m e)
-      (ap (drop (m + length x)) (sym (append-assoc a b c)) ∙ drop-at (a ++ b) c (m + length x) past)
-
   pub replaced-length : (m : ℕ) (x l : List A) → m + length x ≤ length l → length (replaced m x l) ≡ length l
   replaced-length m x l h = simp (length-append, length-take-le m l (omega arith), length-drop) (omega arith)
 

@@ -2,7 +2,7 @@
 ghost use mathlib.Core.Path.{_≡_};
 ghost use Prim.Native.Nat.{_+_, _≤_};
 ghost use lib.ListN.{length};
-ghost use Rattle.bases.specs.Tells.{Tells};
+ghost use Rattle.plain.specs.Tells.{Tells};
 ghost use Rattle.laying.specs.Laid.{replaced};
 
 // Lays new numbers over those from place `at` on.

@@ -1,7 +1,7 @@
 -- A base with both cases of each of its letters. Assumes nothing.
 use mathlib.Core.Path.{_≡_, refl, sym, _∙_}
 use Prim.Native.Nat.{ℕ, _^_, _<_}
-use Rattle.bases.specs.Base.{Holds, Empty, Meets}
+use Rattle.bases.specs.Base.{Holds, Empty, Meets, codes}
 use Rattle.sets.specs.Set.{Exactly}
 use Rattle.sets.proofs.Exact.{held-under, under-held}
 use Rattle.texts.specs.Case.{lowered}
@@ -17,8 +17,8 @@ pub some-like : {b c d : ℕ} → lowered c ≡ lowered d → SomeCase b c → S
 some-like e s = record { like = s .like; held = s .held; same = s .same ∙ e }
 
 module _ {b w : ℕ} (x : Exactly w (SomeCase b)) where
-  pub both-small : b < 2 ^ 128 → w < 2 ^ 128
-  both-small h = under-held 128 (λ c m. let s = x .so c m in like-small (s .like) c (s .same) (held-under 128 h (s .like) (s .held)))
+  pub both-small : b < 2 ^ codes → w < 2 ^ codes
+  both-small h = under-held codes (λ c m. let s = x .so c m in like-small (s .like) c (s .same) (held-under codes h (s .like) (s .held)))
 
   pub both-empty : Empty b → Empty w
   unfolding Empty

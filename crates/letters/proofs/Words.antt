@@ -1,4 +1,5 @@
--- The word of the codes 64 to 127 with both cases of each letter, and the base whose second word it is. Assumes nothing.
+-- The word of the codes 64 to 127 with both cases of each letter, and the base whose second word it is. Assumes
+-- nothing.
 use mathlib.Core.Path.{_≡_, refl, sym, ap, _∙_, subst}
 use mathlib.Core.Logic.{_⊎_, inl, inr, ⊎-elim}
 use Prim.Native.Nat.{ℕ, _+_, _-_, _*_, _/_, _%_, _^_, _≤_, _<_}
@@ -6,7 +7,7 @@ use native.Mathlib.Nat.{add-comm}
 use native.Mathlib.Omega.{arith}
 use lib.Bits.{bitAnd, bitOr}
 use Rattle.bases.specs.Base.{Holds}
-use Rattle.bases.proofs.Plain.{lt-or-le}
+use Rattle.plain.proofs.Plain.{lt-or-le}
 use Rattle.sets.specs.declared.Set.{Set}
 use Rattle.sets.specs.Set.{setOf, Exactly, Proper}
 use Rattle.sets.proofs.Exact.{exactly-as, held-under, both-exactly, either-exactly, ones-exactly, up-exactly, lower-exactly, raise-exactly, kept-exactly}

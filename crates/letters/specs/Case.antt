@@ -1,4 +1,5 @@
--- Document 02, order 9: whether a base has a character, and whether two bases can stand for one character, without regard to case.
+-- Document 02, order 9: whether a base has a character, and whether two bases can stand for one character, without
+-- regard to case.
 use mathlib.Core.Path.{_≡_}
 use Prim.Native.Nat.{ℕ}
 use Rattle.bases.specs.Base.{Holds}

@@ -4,7 +4,8 @@ ghost use Rattle.sets.specs.Set.{setOf, Exactly};
 ghost use Rattle.letters.specs.Case.{SomeCase};
 ghost use Rattle.letters.specs.Code.{Spread};
 
-// The word of the codes 64 to 127 with both cases of each letter: A to Z are its bits 1 to 26, a to z its bits 33 to 58.
+// The word of the codes 64 to 127 with both cases of each letter: A to Z are its bits 1 to 26, a to z its bits 33 to
+// 58.
 fn spread(w: u64) -> u64
     ensures { λ r. ⌜ Exactly r (Spread w) ⌝ }
 {

@@ -1,4 +1,5 @@
--- Document 01, "A book and its run": what the program prints for a file is the report of how the file ends, all of it and nothing else.
+-- Document 01, "A book and its run": what the program prints for a file is the report of how the file ends, all of it
+-- and nothing else.
 use mathlib.Core.Path.{_≡_}
 use mathlib.Core.List.{List}
 use Prim.Native.Nat.{ℕ}

@@ -1,21 +1,22 @@
--- A group of states at which the guide says the same: how positions sort, and the characters that it brings; and all groups. Assumes nothing.
-use mathlib.Core.Path.{_≡_, refl, sym, _∙_, subst}
+-- A group of states at which the guide says the same: how positions sort, and the characters that it brings; and all
+-- groups. Assumes nothing.
+use mathlib.Core.Path.{_≡_, sym, _∙_, subst}
 use mathlib.Core.Bool.{Bool, true, false}
 use mathlib.Core.List.{List}
 use mathlib.Core.Logic.{_⊎_, inl, inr, ⊎-elim}
-use Prim.Native.Nat.{ℕ, _+_, _-_, _/_, _≤_, _<_}
+use Prim.Native.Nat.{ℕ, _+_, _-_, _≤_, _<_}
 use native.Mathlib.Omega.{arith}
 use lib.Bits.{bitOr}
 use lib.ListN.{length, take}
 use Rattle.bases.specs.Base.{Holds, Empty, Meets}
-use Rattle.bases.specs.Tells.{Tells}
+use Rattle.plain.specs.Tells.{Tells}
 use Rattle.bases.proofs.Laws.{none-in-zero}
-use Rattle.bases.proofs.Plain.{lt-or-le}
+use Rattle.plain.proofs.Plain.{lt-or-le}
 use Rattle.sets.specs.Set.{setOf, Exactly}
 use Rattle.sets.proofs.Exact.{exactly-as, either-exactly}
-use Rattle.shapes.specs.Shape.{Block}
+use Rattle.shapes.specs.Shape.{Block, blockCount}
 use Rattle.shapes.specs.Lent.{shapeOf}
-use Rattle.rests.specs.Walk.{slotAt}
+use Rattle.walks.specs.Walk.{slotAt}
 use Rattle.rows.specs.Row.{rowIn}
 use Rattle.rows.specs.Steps.{Given}
 use Rattle.order_sides.specs.Guide.{Guide}
@@ -33,6 +34,7 @@ use Rattle.order_states.specs.declared.Sorts.{Sorts}
 use Rattle.order_states.specs.declared.Gathered.{Gathered}
 use Rattle.order_states.specs.States.{PassOf, SortedAs, Joins, States}
 use Rattle.order_states.proofs.Pass.{joins-pass}
+use Rattle.plain.proofs.Tells.{tells-so}
 use Rattle.order_back.specs.Back.{SortedBy, Handed, Group, GathersFrom}
 
 -- nothing is given where there is no position
@@ -52,12 +54,7 @@ no-end s u m = record { so = λ i h. inr h; has = λ i h. ⊎-elim (λ a. absurd
     not-both : _≡_ {A = Bool} false true → ⊥
     not-both e = let z : _≡_ {A = ℕ} 0 1 = cc in omega arith
 
--- an answer that tells P is true or not
-told : {P : Type 0} (r : Bool) → Tells r P → P → r ≡ true
-told true t p = refl
-told false t p = absurd (t .not-so refl p)
-
-module _ {x z e s : List ℕ} (l : Laid x z e s) {k : ℕ} (blocks : k ≡ length x / 4) {G : Guide} where
+module _ {x z e s : List ℕ} (l : Laid x z e s) {k : ℕ} (blocks : k ≡ blockCount x) {G : Guide} where
   -- how positions sort at one state
   sorted-at : {q u same apart : ℕ} {may : Bool} {r : Sorts} → same ≡ G .same q → apart ≡ G .apart q → Tells may (0 < G .ends q)
       → SortedBy x s k u same apart may r → SortedAs (slotAt (shapeOf x)) G u q r
@@ -66,7 +63,7 @@ module _ {x z e s : List ℕ} (l : Laid x z e s) {k : ℕ} (blocks : k ≡ lengt
     parts = parting;
     leaves = exactly-as
         (λ i h. ⊎-elim (λ m. inl (m .0, t .so (m .1))) (λ m. inr (parting .so i m)) h)
-        (λ i h. ⊎-elim (λ m. inl (m .0, told may t (m .1))) (λ m. inr (parting .has i m)) h)
+        (λ i h. ⊎-elim (λ m. inl (m .0, tells-so t (m .1))) (λ m. inr (parting .has i m)) h)
         (g .leaves);
   }
     where

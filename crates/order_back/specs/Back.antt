@@ -9,7 +9,7 @@ use Rattle.bases.specs.Base.{Holds}
 use Rattle.sets.specs.Set.{setOf, Exactly}
 use Rattle.shapes.specs.Shape.{Block, total, blockCount}
 use Rattle.shapes.specs.Lent.{shapeOf, blockAt}
-use Rattle.rows.specs.Row.{rowIn, tableSize}
+use Rattle.rows.specs.Row.{rowIn, tableSize, rowCount}
 use Rattle.rows.specs.Steps.{Matched, Given, Together}
 use Rattle.carries.specs.Climb.{Spans}
 use Rattle.row_steps.specs.declared.Runs.{Runs}
@@ -21,7 +21,8 @@ use Rattle.order_states.specs.declared.Sorts.{Sorts}
 use Rattle.order_states.specs.declared.Gathered.{Gathered}
 use Rattle.order_states.specs.States.{PassOf}
 
--- A shape laid out, with its runs and their spans, u past all its blocks, the first m bytes of a text, and room for the rows and for each block's characters.
+-- A shape laid out, with its runs and their spans, u past all its blocks, the first m bytes of a text, and room for the
+-- rows and for each block's characters.
 pub record Ready (x zones ends slots spans : List ℕ) (runs : Runs) (u : ℕ) (text : List ℕ) (m : ℕ) (rows chars : List ℕ) : Type 0 where
   pub laid : Laid x zones ends slots
   pub all : Together (rowIn zones) (rowIn ends) (blockCount x) (setOf (runs .free)) (setOf (runs .stops))
@@ -30,7 +31,7 @@ pub record Ready (x zones ends slots spans : List ℕ) (runs : Runs) (u : ℕ) (
   pub plain : Plain text m
   pub short : m ≤ 250
   pub rows-long : length rows ≡ tableSize
-  pub room : length x ≤ length chars
+  pub room : blockCount x ≤ rowCount chars
 
 -- The positions of the first k blocks of x, sorted by the bases that their bases meet.
 pub record SortedBy (x slots : List ℕ) (k u same apart : ℕ) (may : Bool) (r : Sorts) : Type 0 where

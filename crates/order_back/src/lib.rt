@@ -1,4 +1,5 @@
-// An order's second pass, by groups of states at which the guide says the same; and the characters that each block is brought.
+// An order's second pass, by groups of states at which the guide says the same; and the characters that each block is
+// brought.
 use extreme_steps::Direction;
 use order_states::Gathered;
 use order_states::Sorts;
@@ -12,7 +13,7 @@ ghost use lib.ListN.{length, take};
 ghost use Rattle.bases.specs.Base.{Holds};
 ghost use Rattle.sets.specs.Set.{setOf, Exactly};
 ghost use Rattle.shapes.specs.Lent.{shapeOf};
-ghost use Rattle.rests.specs.Walk.{slotAt};
+ghost use Rattle.walks.specs.Walk.{slotAt};
 ghost use Rattle.rows.specs.Row.{rowIn, rowCount};
 ghost use Rattle.order_guides.specs.Guide.{nextOf, guideOf, Steady};
 ghost use Rattle.order_rows.specs.Rows.{MatchRows, Right};
@@ -33,7 +34,7 @@ fn or_end(s: Set, may: bool, u: usize) -> Set
 
 // The positions of a shape, sorted by the next characters, those that part, and whether a text may end.
 fn sorted(same: Set, apart: Set, may: bool, x: &[u64], slots: &[u64], u: usize) -> Sorts
-    requires { ⌜ (length (now x) ≤ length (now slots)) × (u < 256) ⌝ }
+    requires { ⌜ (blockCount (now x) ≤ rowCount (now slots)) × (u < 256) ⌝ }
     ensures { λ r. ⌜ SortedBy (now (x .entry)) (now (slots .entry)) (blockCount (now (x .entry))) u (setOf same) (setOf apart) may r ⌝ }
 {
     let k = x.len() / shapes::SIZE;

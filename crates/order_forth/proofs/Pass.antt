@@ -1,15 +1,15 @@
 -- The rows of an order's first pass, one more at a time. Assumes nothing.
 use mathlib.Core.Path.{_≡_, sym, ap, _∙_, subst}
 use mathlib.Core.List.{List}
-use Prim.Native.Nat.{ℕ, _+_, _-_, _*_, _/_, _%_, _^_, _≤_, _<_}
+use Prim.Native.Nat.{ℕ, _+_, _-_, _*_, _%_, _^_, _≤_, _<_}
 use native.Mathlib.Omega.{arith}
 use lib.Bits.{bitAnd}
 use lib.ListN.{length, take}
 use Rattle.bases.specs.Base.{Empty}
 use Rattle.sets.specs.Set.{Exactly}
 use Rattle.shapes.specs.Lent.{shapeOf, blockAt}
-use Rattle.rests.specs.Walk.{slotAt}
-use Rattle.rows.specs.Row.{rowIn, PutRow}
+use Rattle.walks.specs.Walk.{slotAt}
+use Rattle.rows.specs.Row.{rowIn, PutRow, tableSize}
 use Rattle.rows.specs.Steps.{Leads, Matched}
 use Rattle.rows.proofs.Rows.{rows-more}
 use Rattle.order_guides.specs.Guide.{nextOf}
@@ -17,6 +17,7 @@ use Rattle.row_paths.specs.Laid.{Laid}
 use Rattle.order_rows.specs.Rows.{Matches}
 use Rattle.row_paths.proofs.Laid.{laid-zones, laid-meets}
 use Rattle.order_rows.proofs.Evens.{row-first, row-next, limit-empty}
+use Rattle.shapes.specs.Shape.{blockCount}
 use Rattle.order_forth.specs.Forth.{Forth, ForthTo}
 
 pub same-mask : {A B : ℕ → ℕ} {n k s t : ℕ} → s ≡ t → Exactly n (Matched A B k s) → Exactly n (Matched A B k t)
@@ -24,7 +25,7 @@ same-mask {A} {B} {n} {k} e x = subst (λ (v : ℕ). Exactly n (Matched A B k v)
 
 module _ {x z e s : List ℕ} (l : Laid x z e s) (text : List ℕ) (m : ℕ) where
   -- the row of the starts
-  pub forth-first : {k t r mask : ℕ} {w w′ : List ℕ} → k ≡ length x / 4 → length w ≡ 1004 → Exactly t (λ i. i ≡ 0) → Exactly r (Leads (rowIn e) (rowIn z) k t) → PutRow w 0 r w′
+  pub forth-first : {k t r mask : ℕ} {w w′ : List ℕ} → k ≡ blockCount x → length w ≡ tableSize → Exactly t (λ i. i ≡ 0) → Exactly r (Leads (rowIn e) (rowIn z) k t) → PutRow w 0 r w′
       → ForthTo x s text m k w′ r mask 0
   forth-first {r = r} {w = w} d long one y p =
       let first = row-first {T = nextOf (take m text)} (laid-zones l d) one y in

@@ -1,11 +1,12 @@
--- An order's first pass: row q has the positions to which some text of the shape leads that matches q characters of the first m bytes of a text.
+-- An order's first pass: row q has the positions to which some text of the shape leads that matches q characters of the
+-- first m bytes of a text.
 use mathlib.Core.Path.{_≡_}
 use mathlib.Core.List.{List}
 use Prim.Native.Nat.{ℕ, _-_, _≤_, _<_}
 use lib.ListN.{length, take}
 use Rattle.sets.specs.Set.{Exactly}
 use Rattle.shapes.specs.Lent.{shapeOf, blockAt}
-use Rattle.rests.specs.Walk.{slotAt}
+use Rattle.walks.specs.Walk.{slotAt}
 use Rattle.rows.specs.Row.{rowIn, tableSize}
 use Rattle.rows.specs.Steps.{Matched}
 use Rattle.order_guides.specs.Guide.{nextOf}

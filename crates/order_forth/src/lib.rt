@@ -1,4 +1,5 @@
-// An order's first pass: for each number of matched characters of a fixed text the row of the positions that some text leads to.
+// An order's first pass: for each number of matched characters of a fixed text the row of the positions that some text
+// leads to.
 use sets::Set;
 ghost use mathlib.Core.Path.{_≡_};
 ghost use Prim.Native.Nat.{_-_, _/_, _≤_, _<_};

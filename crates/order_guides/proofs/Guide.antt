@@ -10,7 +10,7 @@ use lib.Dec.{ltb}
 use lib.ListN.{length, getD}
 use Rattle.bases.specs.Base.{Holds, Empty}
 use Rattle.bases.proofs.Laws.{none-in-zero}
-use Rattle.bases.proofs.Plain.{lt-or-le}
+use Rattle.plain.proofs.Plain.{lt-or-le}
 use Rattle.sets.specs.Set.{Exactly}
 use Rattle.sets.proofs.Exact.{exactly-as, without-exactly, one-exactly, ones-exactly}
 use Rattle.extreme_steps.specs.declared.Direction.{Direction}
@@ -57,13 +57,13 @@ module _ (T : List ℕ) (q : ℕ) where
 
 -- ---- the two directions
 
-not-both : {A : Type 0} → _≡_ {A = Direction} Least Greatest → A
+pub not-both : {A : Type 0} → _≡_ {A = Direction} Least Greatest → A
 not-both e = let z : _≡_ {A = ℕ} 0 1 = cc in absurd (omega arith)
 
-less-of : {c e : ℕ} → Beyond Least c e → c < e
+pub less-of : {c e : ℕ} → Beyond Least c e → c < e
 less-of (lower h) = h
 
-more-of : {c e : ℕ} → Beyond Greatest c e → e < c
+pub more-of : {c e : ℕ} → Beyond Greatest c e → e < c
 more-of (higher h) = h
 
 pub above-exactly : (c : ℕ) → Exactly (beyondOf Greatest c) (λ e. (e < 256) × (c < e))

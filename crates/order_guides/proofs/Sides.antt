@@ -1,33 +1,24 @@
--- What keeps to a guide is on the right side of its text, and being on the right side is one of the two orders. Assumes nothing.
+-- What keeps to a guide is on the right side of its text, and being on the right side is one of the two orders. Assumes
+-- nothing.
 use mathlib.Core.Path.{_≡_, refl, sym, ap, _∙_, subst}
 use mathlib.Core.Bool.{Bool, true, false}
 use mathlib.Core.List.{List, [], _∷_}
 use Prim.Native.Nat.{ℕ, suc, _+_, _-_, _≤_, _<_}
 use native.Mathlib.Omega.{arith}
 use lib.ListN.{length, getD, drop, length-drop, drop-of-length-le}
-use Rattle.shapes.specs.All.{All, more}
+use Rattle.plain.specs.All.{All, more}
 use Rattle.texts.specs.Order.{AtMost, Before}
 use Rattle.texts.proofs.Rests.{rest-next}
 use Rattle.extreme_steps.specs.declared.Direction.{Direction}
 use Rattle.extreme_steps.specs.declared.Direction.the-variants.{Least, Greatest}
-use Rattle.order_sides.specs.Guide.{Keeps, Ended}
+use Rattle.order_sides.specs.Guide.{KeepsTo}
+use Rattle.bases.specs.Base.{codes}
+use Rattle.plain.proofs.Plain.{true-false}
 use Rattle.order_guides.specs.Sides.{Beyond, lower, higher, Side, NextIs, PartsFrom, MayEnd}
 use Rattle.order_guides.specs.Guide.{guideOf}
-use Rattle.order_guides.proofs.Guide.{next-so, next-mark, apart-so, apart-mark, ends-so, ends-mark}
+use Rattle.order_guides.proofs.Guide.{not-both, less-of, more-of, next-so, next-mark, apart-so, apart-mark, ends-so, ends-mark}
 
 -- ---- the two orders, from either side
-
-not-both : {A : Type 0} → _≡_ {A = Direction} Least Greatest → A
-not-both e = let z : _≡_ {A = ℕ} 0 1 = cc in absurd (omega arith)
-
-pub not-true : {A : Type 0} → _≡_ {A = Bool} true false → A
-not-true e = let z : _≡_ {A = ℕ} 0 1 = cc in absurd (omega arith)
-
-less-of : {c e : ℕ} → Beyond Least c e → c < e
-less-of (lower h) = h
-
-more-of : {c e : ℕ} → Beyond Greatest c e → e < c
-more-of (higher h) = h
 
 pub side-at-most : {t u : List ℕ} → Side Least false t u → AtMost t u
 side-at-most (Side.level e) = AtMost.ends
@@ -43,7 +34,7 @@ at-most-side (AtMost.less h) = Side.apart (lower h)
 at-most-side (AtMost.same r) = Side.same (at-most-side r)
 
 pub side-before : {t u : List ℕ} → Side Least true t u → Before t u
-side-before (Side.level e) = not-true e
+side-before (Side.level e) = true-false e
 side-before (Side.shorter e) = Before.ends
 side-before (Side.longer e) = not-both e
 side-before (Side.apart b) = Before.less (less-of b)
@@ -68,7 +59,7 @@ at-least-side (AtMost.less h) = Side.apart (higher h)
 at-least-side (AtMost.same r) = Side.same (at-least-side r)
 
 pub side-after : {t u : List ℕ} → Side Greatest true t u → Before u t
-side-after (Side.level e) = not-true e
+side-after (Side.level e) = true-false e
 side-after (Side.shorter e) = not-both (sym e)
 side-after (Side.longer e) = Before.ends
 side-after (Side.apart b) = Before.less (more-of b)
@@ -99,9 +90,6 @@ none-left T q x h = let n : 0 ≡ length T - q = ap length x ∙ length-drop q T
 -- ---- what keeps to a guide
 
 module _ (d : Direction) (strict : Bool) (T : List ℕ) where
-  pub guide-ended : Ended (guideOf d strict T) (length T)
-  guide-ended = record { no-more = λ c h. let n = next-so T (length T) c h in let w = n .within in omega arith }
-
   -- one symbol of T at a time
   ended : (q : ℕ) → MayEnd d strict T q → Side d strict [] (drop q T)
   ended q (MayEnd.shorter e l) = subst (Side d strict []) (sym (rest-next T q l)) (Side.shorter e)
@@ -115,28 +103,28 @@ module _ (d : Direction) (strict : Bool) (T : List ℕ) where
   stayed q c t n r = subst (Side d strict (c ∷ t)) (sym (rest-next T q (n .within)))
       (subst (λ (z : ℕ). Side d strict (c ∷ t) (z ∷ drop (q + 1) T)) (n .same) (Side.same r))
 
-  keeps-side : {q : ℕ} {t : List ℕ} → q ≤ length T → Keeps (guideOf d strict T) q t → Side d strict t (drop q T)
-  keeps-side {q} h (Keeps.ends n) = ended q (ends-so T q d strict h n)
-  keeps-side {q} {t = c ∷ t} h (Keeps.apart k) = parted q c t (apart-so T q d c k)
-  keeps-side {q} {t = c ∷ t} h (Keeps.same k r) =
+  keeps-side : {q : ℕ} {t : List ℕ} → q ≤ length T → KeepsTo (guideOf d strict T) q t → Side d strict t (drop q T)
+  keeps-side {q} h (KeepsTo.ends n) = ended q (ends-so T q d strict h n)
+  keeps-side {q} {t = c ∷ t} h (KeepsTo.apart k) = parted q c t (apart-so T q d c k)
+  keeps-side {q} {t = c ∷ t} h (KeepsTo.same k r) =
       let n = next-so T q c k in
       let w = n .within in
       stayed q c t n (keeps-side (omega arith) r)
 
-  side-keeps : {t u : List ℕ} → Side d strict t u → (q : ℕ) → u ≡ drop q T → q ≤ length T → All (λ c. c < 128) t → Keeps (guideOf d strict T) q t
-  side-keeps (Side.level e) q x h a = Keeps.ends (ends-mark T q d strict (MayEnd.level e (none-left T q x h)))
-  side-keeps (Side.shorter {e = e} {u = u} z) q x h a = Keeps.ends (ends-mark T q d strict (MayEnd.shorter z (some-left T q e u x .0)))
-  side-keeps (Side.longer {c = c} z) q x h (more s a) = Keeps.apart (apart-mark T q d c (omega arith) (PartsFrom.longer z (let n = none-left T q x h in omega arith)))
+  side-keeps : {t u : List ℕ} → Side d strict t u → (q : ℕ) → u ≡ drop q T → q ≤ length T → All (λ c. c < codes) t → KeepsTo (guideOf d strict T) q t
+  side-keeps (Side.level e) q x h a = KeepsTo.ends (ends-mark T q d strict (MayEnd.level e (none-left T q x h)))
+  side-keeps (Side.shorter {e = e} {u = u} z) q x h a = KeepsTo.ends (ends-mark T q d strict (MayEnd.shorter z (some-left T q e u x .0)))
+  side-keeps (Side.longer {c = c} z) q x h (more s a) = KeepsTo.apart (apart-mark T q d c (omega arith) (PartsFrom.longer z (let n = none-left T q x h in omega arith)))
   side-keeps (Side.apart {c = c} {e = e} {u = u} b) q x h (more s a) =
       let l = some-left T q e u x in
-      Keeps.apart (apart-mark T q d c (omega arith) (PartsFrom.beyond (l .0) (subst (Beyond d c) (l .1) b)))
+      KeepsTo.apart (apart-mark T q d c (omega arith) (PartsFrom.beyond (l .0) (subst (Beyond d c) (l .1) b)))
   side-keeps (Side.same {c = c} {u = u} r) q x h (more s a) =
       let l = some-left T q c u x in
       let w = l .0 in
-      Keeps.same (next-mark T q c (record { within = w; same = l .1 })) (side-keeps r (q + 1) (l .2) (omega arith) a)
+      KeepsTo.same (next-mark T q c (record { within = w; same = l .1 })) (side-keeps r (q + 1) (l .2) (omega arith) a)
 
-  pub guide-side : {t : List ℕ} → Keeps (guideOf d strict T) 0 t → Side d strict t T
+  pub guide-side : {t : List ℕ} → KeepsTo (guideOf d strict T) 0 t → Side d strict t T
   guide-side {t} k = subst (Side d strict t) (drop-zero T) (keeps-side (omega arith) k)
 
-  pub side-guide : {t : List ℕ} → All (λ c. c < 128) t → Side d strict t T → Keeps (guideOf d strict T) 0 t
+  pub side-guide : {t : List ℕ} → All (λ c. c < codes) t → Side d strict t T → KeepsTo (guideOf d strict T) 0 t
   side-guide a r = side-keeps r 0 (sym (drop-zero T)) (omega arith) a

@@ -7,9 +7,9 @@ use Prim.Native.Nat.{ℕ, _+_, _-_, _^_, _≤_, _<_}
 use native.Mathlib.Omega.{arith}
 use lib.ListN.{length, getD, take, length-take}
 use lib.Seq.{getD-take}
-use Rattle.bases.specs.Tells.{Tells}
-use Rattle.bases.proofs.Plain.{lt-or-le}
-use Rattle.bases.proofs.Tells.{tells-true, tells-false}
+use Rattle.plain.specs.Tells.{Tells}
+use Rattle.plain.proofs.Plain.{lt-or-le}
+use Rattle.plain.proofs.Tells.{tells-true, tells-false}
 use Rattle.sets.specs.Set.{Exactly}
 use Rattle.sets.proofs.Exact.{exactly-as, exactly-one, one-exactly, ones-exactly}
 use Rattle.extreme_steps.specs.declared.Direction.{Direction}

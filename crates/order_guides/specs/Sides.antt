@@ -1,4 +1,5 @@
--- Which texts are on the right side of a fixed text: at most it (least), or at least it (greatest); if strict, before it, or after it.
+-- Which texts are on the right side of a fixed text: at most it (least), or at least it (greatest); if strict, before
+-- it, or after it.
 use mathlib.Core.Path.{_≡_}
 use mathlib.Core.Bool.{Bool, false}
 use mathlib.Core.List.{List, [], _∷_}

@@ -6,7 +6,7 @@ ghost use mathlib.Core.Bool.{Bool};
 ghost use mathlib.Core.List.{List};
 ghost use Prim.Native.Nat.{ℕ, _+_, _≤_, _<_};
 ghost use lib.ListN.{length, take};
-ghost use Rattle.bases.specs.Tells.{Tells};
+ghost use Rattle.plain.specs.Tells.{Tells};
 ghost use Rattle.sets.specs.Set.{setOf};
 ghost use Rattle.order_guides.specs.Guide.{Plain, beyondOf, pastOf, shorterOf, nextOf, apartOf, endsOf, guideOf, Steady};
 

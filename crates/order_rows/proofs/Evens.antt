@@ -5,12 +5,12 @@ use mathlib.Core.Logic.{⊎-elim}
 use native.Mathlib.Omega.{arith}
 use lib.Bits.{bitAnd}
 use Rattle.bases.specs.Base.{Holds, Empty, Meets}
-use Rattle.bases.proofs.Plain.{lt-or-le}
+use Rattle.plain.proofs.Plain.{lt-or-le}
 use Rattle.sets.specs.Set.{Exactly, OneUp}
 use Rattle.sets.proofs.Exact.{both-exactly, up-exactly}
 use Rattle.shapes.specs.Shape.{Block}
-use Rattle.rests.specs.Walk.{Move, first, second, both, Path, stay, move}
-use Rattle.rests.proofs.Walks.{path-then}
+use Rattle.walks.specs.Walk.{Move, first, second, both, Path, stay, move}
+use Rattle.walks.proofs.Walks.{path-then}
 use Rattle.rows.specs.Steps.{Leads, there, step}
 use Rattle.row_paths.specs.Rows.{Zones}
 use Rattle.order_rows.specs.Rows.{Matches, Limit}

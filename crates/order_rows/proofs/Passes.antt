@@ -1,4 +1,5 @@
--- The positions of some states, gathered state by state and joined, and the characters that they bring. Assumes nothing.
+-- The positions of some states, gathered state by state and joined, and the characters that they bring. Assumes
+-- nothing.
 use mathlib.Core.Path.{_≡_, sym, subst}
 use mathlib.Core.Logic.{_⊎_, inl, inr, ⊎-elim}
 use Prim.Native.Nat.{ℕ, _+_, _/_, _≤_, _<_}
@@ -6,7 +7,7 @@ use native.Mathlib.Omega.{arith}
 use lib.Bits.{bitAnd, bitOr}
 use Rattle.bases.specs.Base.{Holds, Empty, Meets}
 use Rattle.bases.proofs.Laws.{none-in-zero}
-use Rattle.bases.proofs.Plain.{lt-or-le}
+use Rattle.plain.proofs.Plain.{lt-or-le}
 use Rattle.sets.specs.Set.{Exactly}
 use Rattle.sets.proofs.Exact.{exactly-as, none-exactly, either-exactly}
 use Rattle.shapes.specs.Shape.{Block}

@@ -4,13 +4,13 @@ use mathlib.Core.Logic.{⊎-elim}
 use Prim.Native.Nat.{ℕ, _+_, _-_, _≤_, _<_}
 use native.Mathlib.Omega.{arith}
 use Rattle.bases.specs.Base.{Holds, Meets}
-use Rattle.bases.proofs.Plain.{lt-or-le}
+use Rattle.plain.proofs.Plain.{lt-or-le}
 use Rattle.sets.specs.Set.{Exactly}
 use Rattle.sets.proofs.Exact.{both-exactly}
 use Rattle.shapes.specs.Shape.{Block}
 use Rattle.row_blocks.specs.Blocks.{LengthBy, early, full, bare, ToldBy}
 use Rattle.order_sides.specs.Guide.{Guide, Clear, Even, Free}
-use Rattle.order_sides.specs.Collect.{Passes, Ends, Collected}
+use Rattle.order_sides.specs.Collect.{Passes, RunEndsAt, Collected}
 use Rattle.order_sides.proofs.Runs.{Spot}
 use Rattle.order_rows.specs.Rows.{Matches, MayQuit, MayMove, MayTake, Known}
 use Rattle.order_rows.proofs.Evens.{even-taken, Led, begin, ended, taken, led}
@@ -44,44 +44,44 @@ module _ {X : ℕ → Block} {U p : ℕ} {b : Block} (at : Spot X U p b) where
       (s, f, subst (λ (x : ℕ). Matches X T x s) same w, subst (λ (x : ℕ). Meets x (T s)) (ap (λ (x : ℕ). X x .base) same ∙ slot-base k (omega arith)) m)
 
   module _ {G : Guide} where
-    pub ends-up : {n : ℕ} → Ends X G U p b n → n ≤ b .upper
-    ends-up (Ends.free low up f) = up
-    ends-up (Ends.empty q low e v k) = omega arith
-    ends-up (Ends.stays k q e l low v m g) = omega arith
+    pub ends-up : {n : ℕ} → RunEndsAt X G U p b n → n ≤ b .upper
+    ends-up (RunEndsAt.free low up f) = up
+    ends-up (RunEndsAt.empty q low e v k) = omega arith
+    ends-up (RunEndsAt.stays k q e l low v m g) = omega arith
 
     -- ---- lengths
 
     module _ {S : ℕ → ℕ} {w quit moved : ℕ} {A : ℕ → ℕ} (x : Known X G U S w quit moved A) where
-      early-ends : {n : ℕ} → n < b .upper → MayQuit X G U (p + n) → Ends X G U p b n
-      early-ends {n} l (MayQuit.free i z f) = Ends.free (let low = slot-lower n l in omega arith) (omega arith) f
+      early-ends : {n : ℕ} → n < b .upper → MayQuit X G U (p + n) → RunEndsAt X G U p b n
+      early-ends {n} l (MayQuit.free i z f) = RunEndsAt.free (let low = slot-lower n l in omega arith) (omega arith) f
       early-ends {n} l (MayQuit.even q z) =
           let low = slot-lower n l in
           let enough = z .enough in
           let on = subst (λ (i : ℕ). Clear X G U i q) (run-end n l) (z .on) in
           ⊎-elim
-          (λ c. Ends.empty q (omega arith) (omega arith) (subst (λ (i : ℕ). Even X G i q) (let e : p + n ≡ p = omega arith in e) (z .reached)) on)
+          (λ c. RunEndsAt.empty q (omega arith) (omega arith) (subst (λ (i : ℕ). Even X G i q) (let e : p + n ≡ p = omega arith in e) (z .reached)) on)
           (λ c.
           let t = last-taken (n - 1) (omega arith) (led (z .reached)) (omega arith) in
-          Ends.stays (n - 1) (t .0) (omega arith) (omega arith) (omega arith) (t .2) (t .3) (subst (Clear X G U (p + b .upper)) (t .1) on))
+          RunEndsAt.stays (n - 1) (t .0) (omega arith) (omega arith) (omega arith) (t .2) (t .3) (subst (Clear X G U (p + b .upper)) (t .1) on))
           (lt-or-le n 1)
 
-      full-ends : {n : ℕ} (k : ℕ) → n ≡ k + 1 → n ≡ b .upper → MayMove X G U (p + k) → Ends X G U p b n
-      full-ends {n} k e d (MayMove.free l f) = let o = at .ordered in Ends.free (omega arith) (omega arith) (subst (Free X G) (let z : p + k + 1 ≡ p + n = omega arith in z) f)
+      full-ends : {n : ℕ} (k : ℕ) → n ≡ k + 1 → n ≡ b .upper → MayMove X G U (p + k) → RunEndsAt X G U p b n
+      full-ends {n} k e d (MayMove.free l f) = let o = at .ordered in RunEndsAt.free (omega arith) (omega arith) (subst (Free X G) (let z : p + k + 1 ≡ p + n = omega arith in z) f)
       full-ends {n} k e d (MayMove.even q z) =
           let o = at .ordered in
-          Ends.stays k q e (omega arith) (omega arith) (z .reached) (subst (λ (y : ℕ). Meets y (G .same q)) (slot-base k (omega arith)) (z .meets))
+          RunEndsAt.stays k q e (omega arith) (omega arith) (z .reached) (subst (λ (y : ℕ). Meets y (G .same q)) (slot-base k (omega arith)) (z .meets))
           (subst (λ (i : ℕ). Clear X G U i (q + 1)) (let y : p + k + 1 ≡ p + b .upper = omega arith in y) (z .on))
 
-      pub length-ends : {n s : ℕ} → Ends X G U p b s → LengthBy quit moved p b n → Ends X G U p b n
+      pub length-ends : {n s : ℕ} → RunEndsAt X G U p b s → LengthBy quit moved p b n → RunEndsAt X G U p b n
       length-ends a (early l h) = early-ends l (x .quits .so _ h)
       length-ends a (full k e d h) = full-ends k e d (x .moves .so _ h)
-      length-ends {n} {s} a (bare z e) = let u = ends-up a in subst (Ends X G U p b) (let g : s ≡ n = omega arith in g) a
+      length-ends {n} {s} a (bare z e) = let u = ends-up a in subst (RunEndsAt X G U p b) (let g : s ≡ n = omega arith in g) a
 
       by-quit : {n : ℕ} → n < b .upper → MayQuit X G U (p + n) → LengthBy quit moved p b n
       by-quit l q = early l (x .quits .has _ q)
 
-      pub ends-length : {n : ℕ} → Ends X G U p b n → LengthBy quit moved p b n
-      ends-length {n} (Ends.free low up f) = ⊎-elim
+      pub ends-length : {n : ℕ} → RunEndsAt X G U p b n → LengthBy quit moved p b n
+      ends-length {n} (RunEndsAt.free low up f) = ⊎-elim
           (λ l. let z = slot-lower n l in let fits = at .fits in by-quit l (MayQuit.free (omega arith) (omega arith) f))
           (λ l. ⊎-elim
           (λ z. bare (omega arith) (omega arith))
@@ -90,7 +90,7 @@ module _ {X : ℕ → Block} {U p : ℕ} {b : Block} (at : Spot X U p b) where
           full (n - 1) (omega arith) (omega arith) (x .moves .has (p + (n - 1)) (MayMove.free (omega arith) (subst (Free X G) (let e : p + n ≡ p + (n - 1) + 1 = omega arith in e) f))))
           (lt-or-le n 1))
           (lt-or-le n (b .upper))
-      ends-length {n} (Ends.empty q low e v k) = ⊎-elim
+      ends-length {n} (RunEndsAt.empty q low e v k) = ⊎-elim
           (λ l.
           let z = slot-lower n l in
           by-quit l (MayQuit.even q (record {
@@ -100,7 +100,7 @@ module _ {X : ℕ → Block} {U p : ℕ} {b : Block} (at : Spot X U p b) where
           })))
           (λ l. bare (omega arith) e)
           (lt-or-le n (b .upper))
-      ends-length {n} (Ends.stays k q e l low v m g) =
+      ends-length {n} (RunEndsAt.stays k q e l low v m g) =
           let here = subst (λ (y : ℕ). Meets y (G .same q)) (sym (slot-base k l)) m in
           ⊎-elim
           (λ h.
@@ -154,7 +154,7 @@ module _ {X : ℕ → Block} {U p : ℕ} {b : Block} (at : Spot X U p b) where
         }) g)
 
         -- the block that is told
-        pub told-collected : {s : ℕ} {h : Block} → Ends X G U p b s → ((c : ℕ) → Holds (b .base) c → c < 256) → ToldBy (A j) quit moved p b h → Collected X G U p b h
+        pub told-collected : {s : ℕ} {h : Block} → RunEndsAt X G U p b s → ((c : ℕ) → Holds (b .base) c → c < 256) → ToldBy (A j) quit moved p b h → Collected X G U p b h
         told-collected {h = h} a small t = record {
           held = λ c y. let d = both-exactly (b .base) (A j) (t .base) .so c y in char-passes c (d .0) (d .1);
           all-held = λ c y. both-exactly (b .base) (A j) (t .base) .has c (own y, passes-char (small c (own y)) y);

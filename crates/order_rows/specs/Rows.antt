@@ -7,11 +7,12 @@ use Prim.Native.Nat.{ℕ, _+_, _≤_, _<_}
 use Rattle.bases.specs.Base.{Holds, Meets}
 use Rattle.sets.specs.Set.{Exactly}
 use Rattle.shapes.specs.Shape.{Block}
-use Rattle.rests.specs.Walk.{Path}
+use Rattle.walks.specs.Walk.{Path}
 use Rattle.rows.specs.Row.{rowIn}
 use Rattle.order_sides.specs.Guide.{Guide, Clear, Even, Free}
 
--- Some text leads to position i and matches T so far, of which q characters are matched; T q is its next character, as a base.
+-- Some text leads to position i and matches T so far, of which q characters are matched; T q is its next character, as
+-- a base.
 abbrev pub Matches : (ℕ → Block) → (ℕ → ℕ) → ℕ → ℕ → Type 0
 Matches X T i q = Path X (λ s. record { base = T s; lower = 1; upper = 1 }) i q 0 0
 
@@ -28,14 +29,15 @@ pub record Right (X : ℕ → Block) (G : Guide) (U q c : ℕ) : Type 0 where
   pub so : (i : ℕ) → Holds c i → Clear X G U i q
   pub has : (i : ℕ) → Even X G i q → Clear X G U i q → Holds c i
 
--- What the base at a position is to the guide at state q: it holds the next character of T; it holds one that parts from T;
--- it does, or all is read and the text may end.
+-- What the base at a position is to the guide at state q: it holds the next character of T; it holds one that parts
+-- from T; it does, or all is read and the text may end.
 pub record Sorted (X : ℕ → Block) (G : Guide) (U q same apart over : ℕ) : Type 0 where
   pub stays : Exactly same (λ i. Meets (X i .base) (G .same q))
   pub parts : Exactly apart (λ i. Meets (X i .base) (G .apart q))
   pub leaves : Exactly over (λ i. ((i ≡ U) × (0 < G .ends q)) ⊎ Meets (X i .base) (G .apart q))
 
--- Some text on the right side matches T up to position i and state q. There its run ends early, or it takes the next character of T, or it parts from T.
+-- Some text on the right side matches T up to position i and state q. There its run ends early, or it takes the next
+-- character of T, or it parts from T.
 pub record QuitsAt (X : ℕ → Block) (G : Guide) (U q i : ℕ) : Type 0 where
   pub reached : Even X G i q
   pub enough : X i .lower ≡ 0
@@ -64,7 +66,8 @@ pub record PassAlong (X : ℕ → Block) (G : Guide) (U lo hi clear quit moved p
   pub moves : Exactly moved (λ i. During lo hi (λ q. Moves X G U q i))
   pub parts : Exactly parted (λ i. During lo hi (λ q. PartsAt X G q i))
 
--- Some text on the right side takes c, staying with T or parting from it there, at a position of `slot` and a state from lo on and before hi.
+-- Some text on the right side takes c, staying with T or parting from it there, at a position of `slot` and a state
+-- from lo on and before hi.
 pub data Brings (X : ℕ → Block) (G : Guide) (U slot lo hi c : ℕ) : Type 0 where
   stays : (q i : ℕ) → lo ≤ q → q < hi → Holds slot i → Moves X G U q i → Holds (G .same q) c → Brings X G U slot lo hi c
   parts : (q i : ℕ) → lo ≤ q → q < hi → Holds slot i → PartsAt X G q i → Holds (G .apart q) c → Brings X G U slot lo hi c

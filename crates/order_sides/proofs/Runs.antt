@@ -1,23 +1,23 @@
 -- The runs that a block has in texts on the right side are those that the states tell of. Assumes nothing.
 use mathlib.Core.Path.{_≡_, refl, sym, ap, _∙_, subst}
 use mathlib.Core.List.{List, [], _∷_, _++_, append-assoc, List·Memᴰ·head, List·Memᴰ·tail}
-use mathlib.Core.Logic.{_⊎_, ⊎-elim}
+use mathlib.Core.Logic.{⊎-elim}
 use Prim.Native.Nat.{ℕ, zero, suc, _+_, _-_, _≤_, _<_}
 use native.Mathlib.Omega.{arith}
 use lib.ListN.{length, replicate, length-append, length-replicate}
 use Rattle.bases.specs.Base.{Holds, Meets}
-use Rattle.bases.proofs.Plain.{lt-or-le}
-use Rattle.shapes.specs.All.{All, more}
+use Rattle.plain.proofs.Plain.{lt-or-le}
+use Rattle.plain.specs.All.{All, more}
 use Rattle.shapes.specs.Shape.{Block, Run}
-use Rattle.shapes.proofs.All.{all-append, all-left, all-right, all-head, all-tail}
+use Rattle.plain.proofs.All.{all-append, all-left, all-right, all-head, all-tail}
 use Rattle.hulls.specs.Hull.{Occurs, Tight}
 use Rattle.hulls.proofs.Tight.{all-from}
-use Rattle.rests.specs.Walk.{Walk, step, Bounded}
-use Rattle.rests.proofs.Walks.{walk-from, walk-append, path-of, text-of}
-use Rattle.rests.proofs.Laid.{Has, run-walk, walk-run}
-use Rattle.rests.proofs.Cut.{last-of, occurs-split, last-text, within-text, to-within, from-within}
-use Rattle.order_sides.specs.Guide.{Guide, Keeps, along, Even, Free}
-use Rattle.order_sides.specs.Collect.{Passes, Ends, Collected}
+use Rattle.walks.specs.Walk.{Walk, step, Bounded}
+use Rattle.walks.proofs.Walks.{walk-from, walk-append, path-of, text-of}
+use Rattle.walks.proofs.Laid.{Has, run-walk, walk-run}
+use Rattle.walks.proofs.Cut.{last-of, occurs-split, last-text, within-text, to-within, from-within}
+use Rattle.order_sides.specs.Guide.{Guide, KeepsTo, along, Even, Free}
+use Rattle.order_sides.specs.Collect.{Passes, RunEndsAt, Collected}
 use Rattle.order_sides.proofs.Keeping.{keeps-append, CutAt, whole, early, cut, free-later, early-free, clear-of, advance-to, text-clear}
 
 -- ---- lists
@@ -34,8 +34,8 @@ all-times : {P : ℕ → Type 0} (c n : ℕ) → P c → All P (replicate n c)
 all-times c zero h = All.none
 all-times c (suc n) h = more h (all-times c n h)
 
-keeps-text : {G : Guide} {q : ℕ} {t u : List ℕ} → t ≡ u → Keeps G q t → Keeps G q u
-keeps-text {G} {q} e k = subst (Keeps G q) e k
+keeps-text : {G : Guide} {q : ℕ} {t u : List ℕ} → t ≡ u → KeepsTo G q t → KeepsTo G q u
+keeps-text {G} {q} e k = subst (KeepsTo G q) e k
 
 -- ---- a block among the positions of X
 
@@ -54,7 +54,7 @@ pub record RunIn (X : ℕ → Block) (G : Guide) (U p : ℕ) (b : Block) (r : Li
   pub before : Walk X p 0 front
   pub run : Run b r
   pub after : Walk X U (p + b .upper) back
-  pub keeps : Keeps G 0 (front ++ (r ++ back))
+  pub keeps : KeepsTo G 0 (front ++ (r ++ back))
 
 module _ {X : ℕ → Block} {U p : ℕ} {b : Block} (at : Spot X U p b) where
   -- what a slot of the block holds
@@ -94,7 +94,7 @@ module _ {X : ℕ → Block} {U p : ℕ} {b : Block} (at : Spot X U p b) where
           before = walk-append (a .1) (step (m .first) (z .1));
           run = run;
           after = e .1;
-          keeps = keeps-text (sym (append-assoc (a .0) (m .shared ∷ z .0) (r ++ e .0))) (keeps-append (a .2) (Keeps.apart (m .second)));
+          keeps = keeps-text (sym (append-assoc (a .0) (m .shared ∷ z .0) (r ++ e .0))) (keeps-append (a .2) (KeepsTo.apart (m .second)));
         }
 
     -- free from a character d of the run on: after it any characters s
@@ -113,7 +113,7 @@ module _ {X : ℕ → Block} {U p : ℕ} {b : Block} (at : Spot X U p b) where
             before = i .3;
             run = record { held = all-append (i .4) (more h all); enough = omega arith; bounded = omega arith };
             after = e .1;
-            keeps = keeps-text (ap (λ (t : List ℕ). t ++ (d ∷ (s ++ e .0))) (i .2) ∙ sym (within-text (i .0) (i .1) s (e .0) d)) (keeps-append (a .2) (Keeps.apart g));
+            keeps = keeps-text (ap (λ (t : List ℕ). t ++ (d ∷ (s ++ e .0))) (i .2) ∙ sym (within-text (i .0) (i .1) s (e .0) d)) (keeps-append (a .2) (KeepsTo.apart g));
           },
           size,
         )
@@ -140,14 +140,14 @@ module _ {X : ℕ → Block} {U p : ℕ} {b : Block} (at : Spot X U p b) where
 
     -- ---- lengths
 
-    ends-empty : RunIn X G U p b [] → Ends X G U p b 0
+    ends-empty : RunIn X G U p b [] → RunEndsAt X G U p b 0
     ends-empty r = go (cut (r .front) (r .back) (r .keeps))
       where
-        go : CutAt G 0 (r .front) (r .back) → Ends X G U p b 0
-        go (whole s w k) = let low = r .run .enough in Ends.empty s (omega arith) refl (path-of (r .before) w) (clear-of (r .after) k)
-        go (early a z c s e w h) = Ends.free (r .run .enough) (r .run .bounded) (free-later (let l : p ≤ p + 0 = omega arith in l) (early-free a z c (r .before) e w h))
+        go : CutAt G 0 (r .front) (r .back) → RunEndsAt X G U p b 0
+        go (whole s w k) = let low = r .run .enough in RunEndsAt.empty s (omega arith) refl (path-of (r .before) w) (clear-of (r .after) k)
+        go (early a z c s e w h) = RunEndsAt.free (r .run .enough) (r .run .bounded) (free-later (let l : p ≤ p + 0 = omega arith in l) (early-free a z c (r .before) e w h))
 
-    ends-filled : (q : List ℕ) (d : ℕ) → RunIn X G U p b (q ++ (d ∷ [])) → Ends X G U p b (length (q ++ (d ∷ [])))
+    ends-filled : (q : List ℕ) (d : ℕ) → RunIn X G U p b (q ++ (d ∷ [])) → RunEndsAt X G U p b (length (q ++ (d ∷ [])))
     ends-filled q d r = go (cut (r .front ++ q) (d ∷ r .back) (keeps-text (last-text (r .front) q (r .back) d) (r .keeps)))
       where
         long : length (q ++ (d ∷ [])) ≡ length q + 1
@@ -162,28 +162,28 @@ module _ {X : ℕ → Block} {U p : ℕ} {b : Block} (at : Spot X U p b) where
         held : Holds (b .base) d
         held = all-head (all-right q (d ∷ []) (r .run .held))
 
-        last : (s : ℕ) → Walk (along G) s 0 (r .front ++ q) → Keeps G s (d ∷ r .back) → Ends X G U p b (length (q ++ (d ∷ [])))
-        last s w (Keeps.apart h) = Ends.free (r .run .enough) (r .run .bounded)
+        last : (s : ℕ) → Walk (along G) s 0 (r .front ++ q) → KeepsTo G s (d ∷ r .back) → RunEndsAt X G U p b (length (q ++ (d ∷ [])))
+        last s w (KeepsTo.apart h) = RunEndsAt.free (r .run .enough) (r .run .bounded)
             (record { at = p + length q; state = s; before = omega (arith, long, high); reached = path-of walked w; parts = record { shared = d; first = holds-slot (length q) d (omega (arith, long, high)) held; second = h } })
-        last s w (Keeps.same h k) = Ends.stays (length q) s long (omega (arith, long, high)) (r .run .enough) (path-of walked w) (record { shared = d; first = held; second = h }) (clear-of (r .after) k)
+        last s w (KeepsTo.same h k) = RunEndsAt.stays (length q) s long (omega (arith, long, high)) (r .run .enough) (path-of walked w) (record { shared = d; first = held; second = h }) (clear-of (r .after) k)
 
-        go : CutAt G 0 (r .front ++ q) (d ∷ r .back) → Ends X G U p b (length (q ++ (d ∷ [])))
+        go : CutAt G 0 (r .front ++ q) (d ∷ r .back) → RunEndsAt X G U p b (length (q ++ (d ∷ [])))
         go (whole s w k) = last s w k
-        go (early a z c s e w h) = Ends.free (r .run .enough) (r .run .bounded) (free-later (omega (arith, long, high)) (early-free a z c walked e w h))
+        go (early a z c s e w h) = RunEndsAt.free (r .run .enough) (r .run .bounded) (free-later (omega (arith, long, high)) (early-free a z c walked e w h))
 
-    pub ends-of : (r : List ℕ) → RunIn X G U p b r → Ends X G U p b (length r)
+    pub ends-of : (r : List ℕ) → RunIn X G U p b r → RunEndsAt X G U p b (length r)
     ends-of [] i = ends-empty i
     ends-of (c ∷ r) i =
         let l = last-of c r in
-        subst (λ (r : List ℕ). Ends X G U p b (length r)) (sym (l .2)) (ends-filled (l .0) (l .1) (subst (RunIn X G U p b) (l .2) i))
+        subst (λ (r : List ℕ). RunEndsAt X G U p b (length r)) (sym (l .2)) (ends-filled (l .0) (l .1) (subst (RunIn X G U p b) (l .2) i))
 
-    pub run-of : {n : ℕ} → Ends X G U p b n → (r : List ℕ) × RunIn X G U p b r × (length r ≡ n)
-    run-of {n} (Ends.free low up f) = free-run low up f
-    run-of {n} (Ends.empty q low e v k) =
+    pub run-of : {n : ℕ} → RunEndsAt X G U p b n → (r : List ℕ) × RunIn X G U p b r × (length r ≡ n)
+    run-of {n} (RunEndsAt.free low up f) = free-run low up f
+    run-of {n} (RunEndsAt.empty q low e v k) =
         let a = text-of v in
         let z = text-clear (at .bounded) (at .full) k (at .fits) in
         ([], record { front = a .0; back = z .0; before = a .1; run = record { held = All.none; enough = omega arith; bounded = omega arith }; after = z .1; keeps = keeps-append (a .2) (z .2) }, sym e)
-    run-of {n} (Ends.stays k q e l low v m g) =
+    run-of {n} (RunEndsAt.stays k q e l low v m g) =
         let a = text-of v in
         let z = text-clear (at .bounded) (at .full) g (at .fits) in
         let i = from-within (at .has) (at .edge) k l (a .1) in
@@ -196,7 +196,7 @@ module _ {X : ℕ → Block} {U p : ℕ} {b : Block} (at : Spot X U p b) where
             before = i .3;
             run = record { held = all-append (i .4) (more (m .first) All.none); enough = omega arith; bounded = omega arith };
             after = z .1;
-            keeps = keeps-text (ap (λ (t : List ℕ). t ++ (m .shared ∷ z .0)) (i .2) ∙ sym (last-text (i .0) (i .1) (z .0) (m .shared))) (keeps-append (a .2) (Keeps.same (m .second) (z .2)));
+            keeps = keeps-text (ap (λ (t : List ℕ). t ++ (m .shared ∷ z .0)) (i .2) ∙ sym (last-text (i .0) (i .1) (z .0) (m .shared))) (keeps-append (a .2) (KeepsTo.same (m .second) (z .2)));
           },
           omega arith,
         )
@@ -221,9 +221,9 @@ module _ {X : ℕ → Block} {U p : ℕ} {b : Block} (at : Spot X U p b) where
         rest : All (Holds (b .base)) (c ∷ s)
         rest = all-right q (c ∷ s) (r .run .held)
 
-        next : (st : ℕ) → Walk (along G) st 0 (r .front ++ q) → Keeps G st (c ∷ (s ++ r .back)) → Passes X G U p b c
-        next st w (Keeps.apart h) = Passes.parts (length q) st (omega (arith, high, low)) (all-head rest) (path-of walked w) h
-        next st w (Keeps.same h k) = Passes.stays (length q) st (omega (arith, high, low)) (all-head rest) (path-of walked w) h
+        next : (st : ℕ) → Walk (along G) st 0 (r .front ++ q) → KeepsTo G st (c ∷ (s ++ r .back)) → Passes X G U p b c
+        next st w (KeepsTo.apart h) = Passes.parts (length q) st (omega (arith, high, low)) (all-head rest) (path-of walked w) h
+        next st w (KeepsTo.same h k) = Passes.stays (length q) st (omega (arith, high, low)) (all-head rest) (path-of walked w) h
             (clear-of
             (walk-from (let e : p + length q + 1 ≡ p + (length q + 1) = omega (arith, high, low) in e)
             (run-walk (at .has) (length q + 1) s (r .back) (all-tail rest) (omega (arith, high, low)) (omega (arith, high, low)) (r .after))) k)
@@ -260,7 +260,7 @@ module _ {X : ℕ → Block} {U p : ℕ} {b : Block} (at : Spot X U p b) where
     -- a run that stays with T at its character c
     stay-with : {st : ℕ} {t u : List ℕ} (c : ℕ) (f q r z : List ℕ) → Walk X p 0 f → All (Holds (b .base)) q → Holds (b .base) c → All (Holds (b .base)) r
         → b .lower ≤ length q + suc (length r) → length q + suc (length r) ≤ b .upper → Walk X U (p + b .upper) z → t ≡ f ++ q → u ≡ r ++ z
-        → Walk (along G) st 0 t → Holds (G .same st) c → Keeps G (st + 1) u → (r : List ℕ) × RunIn X G U p b r × Occurs c r
+        → Walk (along G) st 0 t → Holds (G .same st) c → KeepsTo G (st + 1) u → (r : List ℕ) × RunIn X G U p b r × Occurs c r
     stay-with c f q r z w hq h hr low high v e d m g k =
         let long : length (q ++ (c ∷ r)) ≡ length q + suc (length r) = length-append q (c ∷ r) in (
           q ++ (c ∷ r),
@@ -270,7 +270,7 @@ module _ {X : ℕ → Block} {U p : ℕ} {b : Block} (at : Spot X U p b) where
             before = w;
             run = record { held = all-append hq (more h hr); enough = omega arith; bounded = omega arith };
             after = v;
-            keeps = keeps-text (ap (λ (t : List ℕ). t ++ (c ∷ (r ++ z))) e ∙ sym (within-text f q r z c)) (keeps-append m (Keeps.same g (keeps-text d k)));
+            keeps = keeps-text (ap (λ (t : List ℕ). t ++ (c ∷ (r ++ z))) e ∙ sym (within-text f q r z c)) (keeps-append m (KeepsTo.same g (keeps-text d k)));
           },
           occurs-right q (List·Memᴰ·head refl),
         )

@@ -1,5 +1,5 @@
--- Narrowing one shape by what keeps to the right side: none exactly if no rest from the start does, and otherwise the blocks that the states tell of.
--- Assumes nothing.
+-- Narrowing one shape by what keeps to the right side: none exactly if no rest from the start does, and otherwise the
+-- blocks that the states tell of. Assumes nothing.
 use mathlib.Core.Path.{_≡_, refl, sym, ap, _∙_, subst}
 use mathlib.Core.List.{List, [], _∷_, _++_}
 use mathlib.Core.Logic.{⊎-elim}
@@ -7,18 +7,18 @@ use Prim.Native.Nat.{ℕ, _+_, _-_, _≤_, _<_}
 use native.Mathlib.Omega.{arith}
 use lib.ListN.{length, getD, take}
 use Rattle.bases.specs.Base.{Holds}
-use Rattle.bases.proofs.Plain.{lt-or-le}
-use Rattle.shapes.specs.All.{All, more}
+use Rattle.plain.proofs.Plain.{lt-or-le}
+use Rattle.plain.specs.All.{All, more}
 use Rattle.shapes.specs.Shape.{Block, Sound, Run, Filling, textOf, total, noBlock}
-use Rattle.shapes.proofs.All.{all-head, all-at}
+use Rattle.plain.proofs.All.{all-head, all-at}
 use Rattle.hulls.specs.Hull.{Satisfies, None, Some, Taken, Tight, Hull}
 use Rattle.hulls.proofs.Tight.{tight-same, run-of-length}
-use Rattle.rests.specs.Walk.{slotAt, Walk, Bounded}
-use Rattle.rests.proofs.Walks.{walk-from, walk-to}
-use Rattle.rests.proofs.Laid.{Has, Slots, none, next, slot-here, slot-after, in-slots}
-use Rattle.rests.proofs.Fillings.{around, rejoin, filling-walk, walk-fits, total-take, slots-take, has-at, start-at}
-use Rattle.order_sides.specs.Guide.{Guide, Keeps, Kept, Clear}
-use Rattle.order_sides.specs.Collect.{Ends, Collected}
+use Rattle.walks.specs.Walk.{slotAt, Walk, Bounded}
+use Rattle.walks.proofs.Walks.{walk-from, walk-to}
+use Rattle.walks.proofs.Laid.{Has, Slots, none, next, slot-here, slot-after, in-slots}
+use Rattle.walks.proofs.Fillings.{around, rejoin, filling-walk, walk-fits, total-take, slots-take, has-at, start-at}
+use Rattle.order_sides.specs.Guide.{Guide, KeepsTo, KeptTo, Clear}
+use Rattle.order_sides.specs.Collect.{RunEndsAt, Collected}
 use Rattle.order_sides.proofs.Keeping.{clear-of, text-clear}
 use Rattle.order_sides.proofs.Runs.{Spot, RunIn, ends-of, collected-tight}
 
@@ -57,10 +57,10 @@ module _ {X : ℕ → Block} (S : List Block) (slots : Slots X 0 S) (bounded : B
     start : {f : List (List ℕ)} → Filling S f → Walk X (total S) 0 (textOf f)
     start x = walk-to (let e : 0 + total S ≡ total S = omega arith in e) (filling-walk slots x)
 
-    pub side-clear : {f : List (List ℕ)} → Satisfies (Kept G) S f → Clear X G (total S) 0 0
+    pub side-clear : {f : List (List ℕ)} → Satisfies (KeptTo G) S f → Clear X G (total S) 0 0
     side-clear s = clear-of (start (s .filling)) (s .rule)
 
-    pub side-none : (Clear X G (total S) 0 0 → ⊥) → None (Kept G) S
+    pub side-none : (Clear X G (total S) 0 0 → ⊥) → None (KeptTo G) S
     side-none n = record { never = λ f s. n (side-clear s) }
 
   module _ (g : All Sound S) where
@@ -78,19 +78,19 @@ module _ {X : ℕ → Block} (S : List Block) (slots : Slots X 0 S) (bounded : B
     }
 
     module _ (G : Guide) where
-      pub side-some : Clear X G (total S) 0 0 → Some (Kept G) S
+      pub side-some : Clear X G (total S) 0 0 → Some (KeptTo G) S
       side-some k =
           let t = text-clear bounded full k (omega arith) in
           let x = walk-fits bounded slots g (omega arith) (t .1) in
-          record { runs = x .runs; satisfies = record { filling = x .filling; rule = subst (Keeps G 0) (sym (x .joined)) (t .2) } }
+          record { runs = x .runs; satisfies = record { filling = x .filling; rule = subst (KeepsTo G 0) (sym (x .joined)) (t .2) } }
 
       module _ (i : ℕ) (l : i < length S) where
-        taken-run : (r : List ℕ) → RunIn X G (total S) (total (take i S)) (getD S i noBlock) r → Taken (Kept G) S i r
+        taken-run : (r : List ℕ) → RunIn X G (total S) (total (take i S)) (getD S i noBlock) r → Taken (KeptTo G) S i r
         taken-run r h =
             let x = rejoin bounded i (h .front) r (h .back) slots g (omega arith) l (omega arith) (h .before) (h .run) (h .after) in
-            record { runs = x .runs; satisfies = record { filling = x .filling; rule = subst (Keeps G 0) (sym (x .joined)) (h .keeps) }; run = x .run }
+            record { runs = x .runs; satisfies = record { filling = x .filling; rule = subst (KeepsTo G 0) (sym (x .joined)) (h .keeps) }; run = x .run }
 
-        run-taken : (r : List ℕ) → Taken (Kept G) S i r → RunIn X G (total S) (total (take i S)) (getD S i noBlock) r
+        run-taken : (r : List ℕ) → Taken (KeptTo G) S i r → RunIn X G (total S) (total (take i S)) (getD S i noBlock) r
         run-taken r k =
             let s = k .satisfies in
             let a = around slots (s .filling) i l in
@@ -101,19 +101,19 @@ module _ {X : ℕ → Block} (S : List Block) (slots : Slots X 0 S) (bounded : B
               before = walk-to (zero-first (total (take i S))) (a .before);
               run = subst (Run (getD S i noBlock)) (k .run) (a .run);
               after = walk-to (zero-first (total S)) (walk-from (let z : total (take i S) + getD S i noBlock .upper ≡ 0 + total (take i S) + getD S i noBlock .upper = omega arith in z) (a .after));
-              keeps = subst (Keeps G 0) (a .text ∙ ap (λ (q : List ℕ). a .front ++ (q ++ a .back)) (k .run)) (s .rule);
+              keeps = subst (KeepsTo G 0) (a .text ∙ ap (λ (q : List ℕ). a .front ++ (q ++ a .back)) (k .run)) (s .rule);
             }
 
-        pub side-tight : {h : Block} → Collected X G (total S) (total (take i S)) (getD S i noBlock) h → Tight (Taken (Kept G) S i) h
+        pub side-tight : {h : Block} → Collected X G (total S) (total (take i S)) (getD S i noBlock) h → Tight (Taken (KeptTo G) S i) h
         side-tight k = tight-same taken-run run-taken (collected-tight (spot i l) k)
 
         -- where some text is on the right side, each block has some run
-        pub side-ends : Clear X G (total S) 0 0 → (n : ℕ) × Ends X G (total S) (total (take i S)) (getD S i noBlock) n
+        pub side-ends : Clear X G (total S) 0 0 → (n : ℕ) × RunEndsAt X G (total S) (total (take i S)) (getD S i noBlock) n
         side-ends k =
             let s = side-some k in
             let r = getD (s .runs) i [] in
             (length r, ends-of (spot i l) r (run-taken r (record { runs = s .runs; satisfies = s .satisfies; run = refl })))
 
       pub side-hull : (S′ : List Block) → length S′ ≡ length S → Clear X G (total S) 0 0
-          → ((i : ℕ) → i < length S → Collected X G (total S) (total (take i S)) (getD S i noBlock) (getD S′ i noBlock)) → Hull (Kept G) S S′
+          → ((i : ℕ) → i < length S → Collected X G (total S) (total (take i S)) (getD S i noBlock) (getD S′ i noBlock)) → Hull (KeptTo G) S S′
       side-hull S′ e k f = record { size = e; some = side-some k; tight = λ i l. side-tight i l (f i l) }

@@ -12,16 +12,16 @@ pub data Passes (X : ℕ → Block) (G : Guide) (U p : ℕ) (b : Block) (c : ℕ
   stays : (k q : ℕ) → k < b .upper → Holds (b .base) c → Even X G (p + k) q → Holds (G .same q) c → Clear X G U (p + k + 1) (q + 1) → Passes X G U p b c
 
 -- Some such text has a run of length n: it is free by its end, or the run is empty or its last character stays with T.
-pub data Ends (X : ℕ → Block) (G : Guide) (U p : ℕ) (b : Block) (n : ℕ) : Type 0 where
-  free : b .lower ≤ n → n ≤ b .upper → Free X G (p + n) → Ends X G U p b n
-  empty : (q : ℕ) → b .lower ≡ 0 → n ≡ 0 → Even X G p q → Clear X G U (p + b .upper) q → Ends X G U p b n
-  stays : (k q : ℕ) → n ≡ k + 1 → k < b .upper → b .lower ≤ n → Even X G (p + k) q → Meets (b .base) (G .same q) → Clear X G U (p + b .upper) (q + 1) → Ends X G U p b n
+pub data RunEndsAt (X : ℕ → Block) (G : Guide) (U p : ℕ) (b : Block) (n : ℕ) : Type 0 where
+  free : b .lower ≤ n → n ≤ b .upper → Free X G (p + n) → RunEndsAt X G U p b n
+  empty : (q : ℕ) → b .lower ≡ 0 → n ≡ 0 → Even X G p q → Clear X G U (p + b .upper) q → RunEndsAt X G U p b n
+  stays : (k q : ℕ) → n ≡ k + 1 → k < b .upper → b .lower ≤ n → Even X G (p + k) q → Meets (b .base) (G .same q) → Clear X G U (p + b .upper) (q + 1) → RunEndsAt X G U p b n
 
 -- h is the block of those runs.
 pub record Collected (X : ℕ → Block) (G : Guide) (U p : ℕ) (b h : Block) : Type 0 where
   pub held : (c : ℕ) → Holds (h .base) c → Passes X G U p b c
   pub all-held : (c : ℕ) → Passes X G U p b c → Holds (h .base) c
-  pub shortest : Ends X G U p b (h .lower)
-  pub not-shorter : (n : ℕ) → Ends X G U p b n → h .lower ≤ n
-  pub longest : Ends X G U p b (h .upper)
-  pub not-longer : (n : ℕ) → Ends X G U p b n → n ≤ h .upper
+  pub shortest : RunEndsAt X G U p b (h .lower)
+  pub not-shorter : (n : ℕ) → RunEndsAt X G U p b n → h .lower ≤ n
+  pub longest : RunEndsAt X G U p b (h .upper)
+  pub not-longer : (n : ℕ) → RunEndsAt X G U p b n → n ≤ h .upper

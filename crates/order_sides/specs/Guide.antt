@@ -5,7 +5,7 @@ use mathlib.Core.List.{List, [], _∷_}
 use Prim.Native.Nat.{ℕ, _+_, _<_}
 use Rattle.bases.specs.Base.{Holds, Meets}
 use Rattle.shapes.specs.Shape.{Block, textOf}
-use Rattle.rests.specs.Walk.{Path}
+use Rattle.walks.specs.Walk.{Path}
 
 -- At each state: the characters that T has next, those that put the text on the right side whatever follows,
 -- and whether the text may end here (not 0).
@@ -15,20 +15,21 @@ pub record Guide : Type 0 where
   pub ends : ℕ → ℕ
 
 -- From state q the text keeps to the right side.
-pub data Keeps (G : Guide) : ℕ → List ℕ → Type 0 where
-  ends : {q : ℕ} → 0 < G .ends q → Keeps G q []
-  apart : {q c : ℕ} {t : List ℕ} → Holds (G .apart q) c → Keeps G q (c ∷ t)
-  same : {q c : ℕ} {t : List ℕ} → Holds (G .same q) c → Keeps G (q + 1) t → Keeps G q (c ∷ t)
+pub data KeepsTo (G : Guide) : ℕ → List ℕ → Type 0 where
+  ends : {q : ℕ} → 0 < G .ends q → KeepsTo G q []
+  apart : {q c : ℕ} {t : List ℕ} → Holds (G .apart q) c → KeepsTo G q (c ∷ t)
+  same : {q c : ℕ} {t : List ℕ} → Holds (G .same q) c → KeepsTo G (q + 1) t → KeepsTo G q (c ∷ t)
 
 -- As a rule of the runs of one shape.
-abbrev pub Kept : Guide → List (List ℕ) → Type 0
-Kept G f = Keeps G 0 (textOf f)
+abbrev pub KeptTo : Guide → List (List ℕ) → Type 0
+KeptTo G f = KeepsTo G 0 (textOf f)
 
 -- T itself, read by position: at each exactly the next character.
 abbrev pub along : Guide → ℕ → Block
 along G q = record { base = G .same q; lower = 1; upper = 1 }
 
--- From position i, with q characters of T matched, some rest of the shape keeps to the right side. X says what the shape allows up to U.
+-- From position i, with q characters of T matched, some rest of the shape keeps to the right side. X says what the
+-- shape allows up to U.
 pub data Clear (X : ℕ → Block) (G : Guide) (U : ℕ) : ℕ → ℕ → Type 0 where
   end : {i q : ℕ} → i ≡ U → 0 < G .ends q → Clear X G U i q
   skip : {i q : ℕ} → X i .lower ≡ 0 → Clear X G U (i + X i .upper) q → Clear X G U i q
@@ -48,5 +49,5 @@ pub record Free (X : ℕ → Block) (G : Guide) (i : ℕ) : Type 0 where
   pub parts : Meets (X at .base) (G .apart state)
 
 -- States up to W, where T has ended.
-pub record Ended (G : Guide) (W : ℕ) : Type 0 where
+pub record AtEnd (G : Guide) (W : ℕ) : Type 0 where
   pub no-more : (c : ℕ) → Holds (G .same W) c → ⊥

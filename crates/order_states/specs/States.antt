@@ -26,7 +26,8 @@ pub record Joins (later earlier r : Gathered) : Type 0 where
   pub moved : setOf (r .moved) ≡ bitOr (setOf (later .moved)) (setOf (earlier .moved))
   pub parted : setOf (r .parted) ≡ bitOr (setOf (later .parted)) (setOf (earlier .parted))
 
--- For each shape whose ends of runs are the steps from Z to E, and each guide: one state, and the states from lo on and before hi.
+-- For each shape whose ends of runs are the steps from Z to E, and each guide: one state, and the states from lo on and
+-- before hi.
 pub record OneState (Z E : ℕ → ℕ) (k : ℕ) (s : Sorts) (row clear : ℕ) (r : Gathered) : Type 0 where
   pub holds : (X : ℕ → Block) (G : Guide) (U q : ℕ) → Zones X Z E k → SortedAs X G U q s → Exactly row (λ i. Even X G i q) → Right X G U (q + 1) clear
       → PassOf X G U q (q + 1) r

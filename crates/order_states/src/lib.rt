@@ -1,4 +1,5 @@
-// The states of an order's second pass, from the last to the first: where texts on the right side end a run early, take a character, or part from the fixed text.
+// The states of an order's second pass, from the last to the first: where texts on the right side end a run early, take
+// a character, or part from the fixed text.
 use row_steps::Runs;
 use sets::Set;
 ghost use mathlib.Core.Path.{_≡_};
@@ -9,15 +10,16 @@ ghost use Rattle.rows.specs.Steps.{InTurn, Together};
 ghost use Rattle.carries.specs.Climb.{Spans};
 ghost use Rattle.order_states.specs.States.{Joins, OneState, States};
 
-// Positions by what their base is to the guide at a state: it holds the next character, or one that parts from it, or all is read or it does.
+// Positions by what their base is to the guide at a state: it holds the next character, or one that parts from it, or
+// all is read or it does.
 pub struct Sorts {
     pub same: Set,
     pub apart: Set,
     pub over: Set,
 }
 
-// Positions from which some rest is on the right side at the first of some states; and where, at any of them, a run ends early,
-// the next character is taken, and a text parts.
+// Positions from which some rest is on the right side at the first of some states; and where, at any of them, a run
+// ends early, the next character is taken, and a text parts.
 pub struct Gathered {
     pub clear: Set,
     pub quit: Set,
@@ -50,7 +52,8 @@ pub fn joined(later: Gathered, earlier: Gathered) -> Gathered
     }
 }
 
-// One state: the row of positions reached, and the positions from which some rest is on the right side at the next state.
+// One state: the row of positions reached, and the positions from which some rest is on the right side at the next
+// state.
 fn one_state(
     zones: &[u64],
     ends: &[u64],

@@ -1,4 +1,5 @@
--- Both sides narrowed, each by the extreme text of the other: what that leaves is the narrowing of the two. Assumes nothing.
+-- Both sides narrowed, each by the extreme text of the other: what that leaves is the narrowing of the two. Assumes
+-- nothing.
 use mathlib.Core.Path.{_≡_, refl, sym, ap, _∙_, subst}
 use mathlib.Core.Bool.{Bool, true, false}
 use mathlib.Core.List.{List}
@@ -6,10 +7,10 @@ use Prim.Native.Nat.{ℕ, _≤_, _<_}
 use native.Mathlib.Omega.{arith}
 use lib.ListN.{length, getD, take, drop}
 use lib.Seq.{take-at, getD-take}
-use Rattle.shapes.specs.All.{All}
+use Rattle.plain.specs.All.{All}
 use Rattle.shapes.specs.Shape.{Block, Small, textOf}
 use Rattle.shapes.specs.Lent.{shapeOf}
-use Rattle.shapes.proofs.All.{all-at}
+use Rattle.plain.proofs.All.{all-at}
 use Rattle.shapes.proofs.Fits.{fits-length}
 use Rattle.texts.specs.Order.{AtMost, Before}
 use Rattle.extreme_steps.specs.declared.Direction.{Direction}
@@ -22,10 +23,13 @@ use Rattle.pairs.specs.Narrow.{Narrows, NarrowAnswer}
 use Rattle.order_guides.specs.Sides.{Side}
 use Rattle.order_guides.specs.Guide.{Plain}
 use Rattle.order_guides.proofs.Sides.{side-at-most, at-most-side, side-before, before-side, side-at-least, at-least-side, side-after, after-side}
-use Rattle.order_texts.specs.Narrowed.{OneNarrowed, One}
-use Rattle.order_texts.proofs.Answers.{text-small}
+use Rattle.order_by_text.specs.Narrowed.{OneNarrowed, One}
+use Rattle.order_by_text.proofs.Answers.{text-small}
+use Rattle.bases.specs.Base.{codes}
+use Rattle.plain.proofs.Plain.{true-false}
+use Rattle.extremes.proofs.Order.{of-least}
 use Rattle.orders.specs.Ordered.{Ordered}
-use Rattle.orders.proofs.Ordered.{at-most-ordered, before-ordered, of-least, fitting, order-hull, order-none}
+use Rattle.orders.proofs.Ordered.{at-most-ordered, before-ordered, fitting, order-hull, order-none}
 
 -- ---- the text of the other side
 
@@ -39,12 +43,12 @@ module _ {e : Direction} {x out out′ : List ℕ} {n : ℕ} (w : TextWritten e 
   pub text-plain : length out′ ≡ 250 → All Small (shapeOf x) → Plain out′ n
   text-plain l s = record {
     within = let h = text-short in omega arith;
-    code = λ q h. subst (λ (z : ℕ). z < 128) (ap (λ (t : List ℕ). getD t q 0) (sym text-taken) ∙ getD-take n out′ q 0 h)
+    code = λ q h. subst (λ (z : ℕ). z < codes) (ap (λ (t : List ℕ). getD t q 0) (sym text-taken) ∙ getD-take n out′ q 0 h)
         (all-at 0 small q (let d = w .length-is in omega arith));
   }
     where
-      small : All (λ c. c < 128) (extreme e (shapeOf x))
-      small = subst (All (λ c. c < 128)) (w .meaning .fits .joined) (text-small s (w .meaning .fits .filling))
+      small : All (λ c. c < codes) (extreme e (shapeOf x))
+      small = subst (All (λ c. c < codes)) (w .meaning .fits .joined) (text-small s (w .meaning .fits .filling))
 
 pub one-by : {d : Direction} {strict : Bool} {T U x out out′ : List ℕ} {r : Bool} → T ≡ U → One (λ f. Side d strict (textOf f) T) x out out′ r → One (λ f. Side d strict (textOf f) U) x out out′ r
 one-by {d} {strict} {x = x} {out} {out′} {r} e o = subst (λ (z : List ℕ). One (λ f. Side d strict (textOf f) z) x out out′ r) e o
@@ -75,9 +79,6 @@ before-faced e = subst (Faced Before) (sym e) (record {
   second = λ t u s. side-after s;
   second-back = λ t u s. after-side s;
 })
-
-true-false : {A : Type 0} → _≡_ {A = Bool} true false → A
-true-false e = let z : _≡_ {A = ℕ} 0 1 = cc in absurd (omega arith)
 
 -- ---- both sides
 

@@ -1,5 +1,5 @@
--- X at most (before) Y asks of X that its text is at most (before) the greatest text of Y, and of Y that its text is at least (after) the least of X.
--- Assumes nothing.
+-- X at most (before) Y asks of X that its text is at most (before) the greatest text of Y, and of Y that its text is at
+-- least (after) the least of X. Assumes nothing.
 use mathlib.Core.Path.{refl, sym, subst}
 use mathlib.Core.List.{List, _++_}
 use Prim.Native.Nat.{ℕ}
@@ -8,11 +8,11 @@ use Rattle.shapes.specs.Shape.{Block, Filling, Fits, textOf}
 use Rattle.texts.specs.Order.{AtMost, Before}
 use Rattle.texts.proofs.Order.{at-most-trans, before-trans, before-trans′}
 use Rattle.extreme_steps.specs.declared.Direction.the-variants.{Least, Greatest}
-use Rattle.extremes.specs.Extreme.{Extreme, NoFurther}
-use Rattle.extremes.specs.Extreme.NoFurther.{at-most, at-least}
+use Rattle.extremes.specs.Extreme.{Extreme}
 use Rattle.hulls.specs.Hull.{Pairs, None, Hull}
 use Rattle.hulls.proofs.Fill.{pairs, filling-size, split-first, split-second}
 use Rattle.hulls.proofs.Sides.{sides}
+use Rattle.extremes.proofs.Order.{of-least, of-greatest}
 use Rattle.orders.specs.Ordered.{Ordered}
 
 pub at-most-ordered : Ordered AtMost
@@ -20,12 +20,6 @@ at-most-ordered = record { earlier = λ t u v p q. at-most-trans p q; later = λ
 
 pub before-ordered : Ordered Before
 before-ordered = record { earlier = λ t u v p q. before-trans′ p q; later = λ t u v p q. before-trans p q }
-
-pub of-least : {t u : List ℕ} → NoFurther Least t u → AtMost t u
-of-least (at-most p) = p
-
-of-greatest : {t u : List ℕ} → NoFurther Greatest t u → AtMost u t
-of-greatest (at-least p) = p
 
 pub fitting : {S : List Block} {f : List (List ℕ)} → Filling S f → Fits S (textOf f)
 fitting {f = f} x = record { runs = f; filling = x; joined = refl }

@@ -10,7 +10,7 @@ ghost use Rattle.texts.specs.Order.{AtMost, Before};
 ghost use Rattle.extreme_steps.specs.Steps.{extreme};
 ghost use Rattle.pairs.specs.Narrow.{NarrowAnswer};
 ghost use Rattle.order_guides.specs.Sides.{Side};
-ghost use Rattle.order_texts.specs.Narrowed.{One};
+ghost use Rattle.order_by_text.specs.Narrowed.{One};
 
 // No text yet.
 fn blank_text() -> [u8; 250]
@@ -35,7 +35,7 @@ fn narrow_by(
 {
     let mut text = blank_text();
     let m = extremes::write_extreme(e, other, &mut text);
-    order_texts::narrow_side(d, strict, x, &text, m, out)
+    order_by_text::narrow_side(d, strict, x, &text, m, out)
 }
 
 // Narrows x to what is at most (before) the greatest text of y.
@@ -58,7 +58,8 @@ fn narrow_second(strict: bool, x: &[u64], y: &[u64], out: &mut [u64]) -> bool
     narrow_by(Direction::Greatest, Direction::Least, strict, y, x, out)
 }
 
-// Narrows two shapes under "x at most y", or under "x before y" if strict: x by the greatest text of y, then y by the least text of x.
+// Narrows two shapes under "x at most y", or under "x before y" if strict: x by the greatest text of y, then y by the
+// least text of x.
 pub fn narrow_order(
     strict: bool,
     x: &[u64],

@@ -1,23 +1,20 @@
--- One shape read alone over padding: readings joined, and cut at an edge that no run crosses; what a block on the way allows; the shape's end. Assumes nothing.
+-- One shape read alone over padding: readings joined, and cut at an edge that no run crosses; what a block on the way
+-- allows; the shape's end. Assumes nothing.
 use mathlib.Core.Path.{_≡_, refl, sym, ap, _∙_, subst}
-use mathlib.Core.Bool.{Bool, true, false}
+use mathlib.Core.Bool.{Bool}
 use mathlib.Core.Logic.{_⊎_, inl, inr, ⊎-elim}
 use Prim.Native.Nat.{ℕ, zero, suc, _+_, _-_, _≤_, _<_}
 use native.Mathlib.Omega.{arith}
 use Rattle.bases.specs.Base.{Holds, Empty, Meets}
-use Rattle.bases.specs.Tells.{Tells}
+use Rattle.plain.specs.Tells.{Tells}
 use Rattle.bases.proofs.Laws.{none-in-zero}
-use Rattle.bases.proofs.Plain.{lt-or-le, eq-or-ne}
+use Rattle.plain.proofs.Plain.{lt-or-le, eq-or-ne}
 use Rattle.sets.specs.Set.{Exactly}
 use Rattle.shapes.specs.Shape.{Block}
-use Rattle.rests.specs.Walk.{lessen, past}
-use Rattle.pads.specs.Pad.{one, after, Ending, Along, here, skip, take}
+use Rattle.walks.specs.Walk.{lessen, past}
+use Rattle.pads.specs.Pad.{one, after, UpToEnd, Along, here, skip, take}
 use Rattle.pads.proofs.Paths.{after-on, after-stays}
 use Rattle.row_paths.specs.Rows.{BlockIn}
-
-pub true-or-false : (x : Bool) → (x ≡ true) ⊎ (x ≡ false)
-true-or-false true = inl refl
-true-or-false false = inr refl
 
 -- no run that starts before p goes past p
 abbrev pub Edge : (ℕ → Block) → ℕ → Type 0
@@ -124,7 +121,7 @@ module _ {Y : ℕ → Block} {p : ℕ} {b : Block} (k : BlockIn Y p b) where
 
 -- past the end W nothing stands
 pub record Bare (Y : ℕ → Block) (W : ℕ) : Type 0 where
-  pub ending : Ending Y W
+  pub ending : UpToEnd Y W
   pub none : (q : ℕ) → W < q → Y q ≡ past
 
 module _ {Y : ℕ → Block} {pad W : ℕ} (k : Bare Y W) where

@@ -1,4 +1,5 @@
--- What leads to the end over padding, block by block from the last: before each block the rows have all from its start on. Assumes nothing.
+-- What leads to the end over padding, block by block from the last: before each block the rows have all from its start
+-- on. Assumes nothing.
 use mathlib.Core.Path.{_≡_, refl, sym, _∙_, subst}
 use mathlib.Core.Bool.{Bool, true, false, true≢false}
 use mathlib.Core.Logic.{_⊎_, inl, inr, ⊎-elim}
@@ -7,19 +8,19 @@ use native.Mathlib.Omega.{arith}
 use lib.Bits.{bitOr}
 use Rattle.bases.specs.Base.{Holds, Empty, Meets}
 use Rattle.bases.proofs.Laws.{none-in-zero}
-use Rattle.bases.proofs.Plain.{lt-or-le}
+use Rattle.plain.proofs.Plain.{lt-or-le, true-or-false}
 use Rattle.bases.proofs.Sets.{both, meets-of}
 use Rattle.sets.specs.declared.Set.{Set}
 use Rattle.sets.specs.Set.{setOf, Exactly}
 use Rattle.sets.proofs.Exact.{exactly-as, none-exactly, either-exactly}
 use Rattle.shapes.specs.Shape.{Block}
-use Rattle.pads.specs.Pad.{after, Ending, Along, here}
+use Rattle.pads.specs.Pad.{after, UpToEnd, Along, here}
 use Rattle.pads.proofs.Paths.{after-stays}
 use Rattle.pad_rows.specs.declared.Tail.{Tail}
 use Rattle.pad_rows.specs.Alone.{Tails}
-use Rattle.pad_rows.specs.Code.{Through, taken, quit, Before}
+use Rattle.pad_rows.specs.Code.{Through, taken, quit, WithBlock}
 use Rattle.row_paths.proofs.Reached.{along-then}
-use Rattle.pad_rows.proofs.Along.{true-or-false, along-from, along-on, along-cross, run-end, next-at, run-free, free-run, edge-after, pad-block, block-pad, over-pad, over-run, first-step, BlockRows}
+use Rattle.pad_rows.proofs.Along.{along-from, along-on, along-cross, run-end, next-at, run-free, free-run, edge-after, pad-block, block-pad, over-pad, over-run, first-step, BlockRows}
 
 -- ---- what the code makes of a block's rows
 
@@ -31,12 +32,12 @@ as-it-was n = record { so = λ q h. inl h; has = λ q. ⊎-elim (λ h. h) (λ h.
 
 module _ {zone end slot : ℕ} {padded : Bool} {t : Tail} where
   -- the block's end is not in the row
-  pub before-apart : (Meets (setOf (t .row)) end → ⊥) → Before zone end slot padded t t
+  pub before-apart : (Meets (setOf (t .row)) end → ⊥) → WithBlock zone end slot padded t t
   before-apart n = record { row = as-it-was (λ q h. n (h .0)); quit = as-it-was (λ q h. n (h .0)); takes = as-it-was (λ q h. n (h .0)) }
 
   module _ {u : Tail} (m : Meets (setOf (t .row)) end) (q : setOf (u .quit) ≡ bitOr (setOf (t .quit)) zone) where
     -- it is, and the block may hold padding
-    pub before-padded : padded ≡ true → setOf (u .row) ≡ bitOr (setOf (t .row)) slot → setOf (u .takes) ≡ bitOr (setOf (t .takes)) slot → Before zone end slot padded t u
+    pub before-padded : padded ≡ true → setOf (u .row) ≡ bitOr (setOf (t .row)) slot → setOf (u .takes) ≡ bitOr (setOf (t .takes)) slot → WithBlock zone end slot padded t u
     before-padded is r s = record {
       row = added (setOf (t .row)) slot r (λ i h. (m, taken is h)) (λ i h. through i (h .1));
       quit = added (setOf (t .quit)) zone q (λ i h. (m, h)) (λ i h. h .1);
@@ -48,7 +49,7 @@ module _ {zone end slot : ℕ} {padded : Bool} {t : Tail} where
         through i (quit y h) = absurd (true≢false (sym is ∙ y))
 
     -- it is, and the block may not
-    pub before-bare : padded ≡ false → setOf (u .row) ≡ bitOr (setOf (t .row)) zone → u .takes ≡ t .takes → Before zone end slot padded t u
+    pub before-bare : padded ≡ false → setOf (u .row) ≡ bitOr (setOf (t .row)) zone → u .takes ≡ t .takes → WithBlock zone end slot padded t u
     before-bare not r s = record {
       row = added (setOf (t .row)) zone r (λ i h. (m, quit not h)) (λ i h. through i (h .1));
       quit = added (setOf (t .quit)) zone q (λ i h. (m, h)) (λ i h. h .1);
@@ -62,7 +63,8 @@ module _ {zone end slot : ℕ} {padded : Bool} {t : Tail} where
 
 -- ---- what leads to the end from a position on
 
--- from p on: where one comes from to the end W, where a run may end on the way there, where padding is taken on the way there
+-- from p on: where one comes from to the end W, where a run may end on the way there, where padding is taken on the way
+-- there
 pub record TailsFrom (Y : ℕ → Block) (pad W p : ℕ) (t : Tail) : Type 0 where
   pub row-is : Exactly (setOf (t .row)) (λ q. (p ≤ q) × Along Y pad W q)
   pub quit-is : Exactly (setOf (t .quit)) (λ q. (p ≤ q) × (Y q .lower ≡ 0) × Along Y pad W (q + Y q .upper))
@@ -83,7 +85,7 @@ takes-none e z = none-exactly z (λ q h. e (h .1 .shared) (h .1 .first))
 
 module _ {Y : ℕ → Block} {pad W : ℕ} where
   -- before the end
-  pub tails-end : {p m : ℕ} {t : Tail} → p ≡ W → m ≡ W → Ending Y W → Y W .base ≡ pad → Exactly (setOf (t .row)) (λ q. q ≡ m) → setOf (t .quit) ≡ 0
+  pub tails-end : {p m : ℕ} {t : Tail} → p ≡ W → m ≡ W → UpToEnd Y W → Y W .base ≡ pad → Exactly (setOf (t .row)) (λ q. q ≡ m) → setOf (t .quit) ≡ 0
       → Exactly (setOf (t .takes)) (λ q. (q ≡ m) × Meets pad pad) → TailsFrom Y pad W p t
   tails-end f g k same r n s = record {
     row-is = exactly-as (λ q e. (omega arith, here {q = q} (omega arith))) (λ q h. let l = h .0 in let o = along-on (h .1) in omega arith) r;
@@ -128,7 +130,7 @@ module _ {Y : ℕ → Block} {pad W : ℕ} where
         (true-or-false padded)
 
     -- one block more
-    pub tails-more : {u : Tail} → Before zone end slot padded t u → TailsFrom Y pad W p u
+    pub tails-more : {u : Tail} → WithBlock zone end slot padded t u → TailsFrom Y pad W p u
     tails-more z = record {
       row-is = exactly-as
           (λ q. ⊎-elim

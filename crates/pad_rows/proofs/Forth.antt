@@ -1,4 +1,5 @@
--- What a row leads to over padding, block by block: after each block the row has all that is reached up to its end. Assumes nothing.
+-- What a row leads to over padding, block by block: after each block the row has all that is reached up to its end.
+-- Assumes nothing.
 use mathlib.Core.Path.{_≡_, refl, sym, _∙_, subst}
 use mathlib.Core.Bool.{Bool, true, false, true≢false}
 use mathlib.Core.Logic.{_⊎_, inl, inr, ⊎-elim}
@@ -6,7 +7,7 @@ use Prim.Native.Nat.{ℕ, _+_, _≤_, _<_}
 use native.Mathlib.Omega.{arith}
 use lib.Bits.{bitAnd, bitOr}
 use Rattle.bases.specs.Base.{Holds, Empty, Meets, Least}
-use Rattle.bases.proofs.Plain.{lt-or-le, eq-or-ne}
+use Rattle.plain.proofs.Plain.{lt-or-le, eq-or-ne, true-or-false}
 use Rattle.sets.specs.Set.{Exactly}
 use Rattle.sets.proofs.Exact.{both-exactly, either-exactly}
 use Rattle.shapes.specs.Shape.{Block}
@@ -14,7 +15,7 @@ use Rattle.pads.specs.Pad.{Along, here}
 use Rattle.pad_rows.specs.Alone.{Trails}
 use Rattle.pad_rows.specs.Code.{Over, kept, taken, quit}
 use Rattle.row_paths.proofs.Reached.{along-then}
-use Rattle.pad_rows.proofs.Along.{along-to, along-on, along-cross, over-pad, over-run, first-step, Bare, along-past, BlockRows, true-or-false}
+use Rattle.pad_rows.proofs.Along.{along-to, along-on, along-cross, over-pad, over-run, first-step, Bare, along-past, BlockRows}
 
 -- ---- what the code makes of a block's rows
 

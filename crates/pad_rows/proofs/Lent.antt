@@ -2,16 +2,16 @@
 use mathlib.Core.Path.{_≡_, sym, ap, _∙_, subst}
 use mathlib.Core.Bool.{Bool}
 use mathlib.Core.List.{List}
-use Prim.Native.Nat.{ℕ, _+_, _/_, _≤_, _<_}
+use Prim.Native.Nat.{ℕ, _+_, _≤_, _<_}
 use native.Mathlib.Omega.{arith}
 use lib.ListN.{length, getD}
 use Rattle.bases.specs.Base.{Meets}
-use Rattle.bases.specs.Tells.{Tells}
+use Rattle.plain.specs.Tells.{Tells}
 use Rattle.sets.proofs.Exact.{exactly-at}
-use Rattle.shapes.specs.Shape.{Block, noBlock, total}
+use Rattle.shapes.specs.Shape.{Block, noBlock, total, blockCount}
 use Rattle.shapes.specs.Lent.{shapeOf, blockAt}
 use Rattle.shapes.proofs.Lent.{shape-length, shape-at}
-use Rattle.rests.proofs.Fillings.{total-take}
+use Rattle.walks.proofs.Fillings.{total-take}
 use Rattle.rows.specs.Row.{rowIn}
 use Rattle.row_lay.specs.Lay.{start, end, Lay}
 use Rattle.row_lay.proofs.Laid.{past-all, total-more}
@@ -27,7 +27,7 @@ bare pad S = record { ending = ended pad S; none = λ q h. padded-slot pad S q (
 pub base-end : (pad : ℕ) (S : List Block) → paddedAt pad S (total S) .base ≡ pad
 base-end pad S = ap (λ (b : Block). b .base) (padded-end pad S)
 
-module _ (xs : List ℕ) {j : ℕ} (l : j < length xs / 4) where
+module _ (xs : List ℕ) {j : ℕ} (l : j < blockCount xs) where
   in-shape : j < length (shapeOf xs)
   in-shape = let e = shape-length xs in omega arith
 

@@ -1,4 +1,5 @@
--- A shape that is read over padding, while another has ended and waits: what a row leads to, and what leads to the end W.
+-- A shape that is read over padding, while another has ended and waits: what a row leads to, and what leads to the end
+-- W.
 use mathlib.Core.Path.{_≡_}
 use Prim.Native.Nat.{ℕ, _+_}
 use Rattle.bases.specs.Base.{Holds, Meets}
@@ -13,7 +14,8 @@ pub record Trails (Y : ℕ → Block) (pad s j : ℕ) : Type 0 where
   pub held : Holds s from
   pub along : Along Y pad j from
 
--- Where it comes from to the end W; where its run may end on the way there; where it takes a character of the padding on the way there.
+-- Where it comes from to the end W; where its run may end on the way there; where it takes a character of the padding
+-- on the way there.
 pub record Tails (Y : ℕ → Block) (pad W : ℕ) (t : Tail) : Type 0 where
   pub row : Exactly (setOf (t .row)) (Along Y pad W)
   pub quit : Exactly (setOf (t .quit)) (λ q. (Y q .lower ≡ 0) × Along Y pad W (q + Y q .upper))

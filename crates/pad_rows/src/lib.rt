@@ -1,17 +1,19 @@
-// A shape laid out in rows and read over padding, while another shape has ended and waits: forwards from a row, and backwards from its end.
+// A shape laid out in rows and read over padding, while another shape has ended and waits: forwards from a row, and
+// backwards from its end.
 use sets::Set;
 ghost use mathlib.Core.Path.{_≡_};
 ghost use Prim.Native.Nat.{_≤_};
-ghost use lib.ListN.{length};
 ghost use Rattle.sets.specs.Set.{setOf, Exactly};
 ghost use Rattle.shapes.specs.Lent.{Whole, shapeOf};
 ghost use Rattle.shapes.specs.Shape.{total, blockCount};
 ghost use Rattle.row_lay.specs.Lay.{Lay};
 ghost use Rattle.pads.specs.Pad.{paddedAt};
+ghost use Rattle.rows.specs.Row.{rowCount};
 ghost use Rattle.pad_rows.specs.Alone.{Trails, Tails};
-ghost use Rattle.pad_rows.specs.Code.{Over, Before};
+ghost use Rattle.pad_rows.specs.Code.{Over, WithBlock};
 
-// What a row leads to within a block and to its end: by its run's end, and, where the block may hold padding, by each character more.
+// What a row leads to within a block and to its end: by its run's end, and, where the block may hold padding, by each
+// character more.
 fn trail_block(zone: Set, end: Set, slot: Set, padded: bool, r: Set) -> Set
     ensures { λ n. ⌜ Exactly (setOf n) (Over (setOf zone) (setOf end) (setOf slot) padded (setOf r)) ⌝ }
 {
@@ -41,7 +43,7 @@ pub fn trail(
 ) -> Set
     requires { ⌜ Whole (now y) × (k ≡ blockCount (now y)) ⌝ }
     requires { ⌜ Lay (shapeOf (now y)) (now zones) (now ends) (now slots) ⌝ }
-    requires { ⌜ (length (now y) ≤ length (now zones)) × (length (now y) ≤ length (now ends)) × (length (now y) ≤ length (now slots)) ⌝ }
+    requires { ⌜ (blockCount (now y) ≤ rowCount (now zones)) × (blockCount (now y) ≤ rowCount (now ends)) × (blockCount (now y) ≤ rowCount (now slots)) ⌝ }
     ensures { λ r. ⌜ Exactly (setOf r) (Trails (paddedAt (setOf pad) (shapeOf (now (y .entry)))) (setOf pad) (setOf s)) ⌝ }
 {
     let mut r = s;
@@ -60,7 +62,8 @@ pub fn trail(
     r
 }
 
-// The positions of a shape from which padding leads to its end; those at which its run may end on the way; those at which it takes padding.
+// The positions of a shape from which padding leads to its end; those at which its run may end on the way; those at
+// which it takes padding.
 pub struct Tail {
     pub row: Set,
     pub quit: Set,
@@ -69,7 +72,7 @@ pub struct Tail {
 
 // A block before its end, which is in the row or not.
 fn tail_block(zone: Set, end: Set, slot: Set, padded: bool, t: Tail) -> Tail
-    ensures { λ u. ⌜ Before (setOf zone) (setOf end) (setOf slot) padded t u ⌝ }
+    ensures { λ u. ⌜ WithBlock (setOf zone) (setOf end) (setOf slot) padded t u ⌝ }
 {
     let row = t.row;
     let quit = t.quit;
@@ -103,7 +106,7 @@ pub fn tail_of(
 ) -> Tail
     requires { ⌜ Whole (now y) × (k ≡ blockCount (now y)) × (m ≡ total (shapeOf (now y))) ⌝ }
     requires { ⌜ Lay (shapeOf (now y)) (now zones) (now ends) (now slots) ⌝ }
-    requires { ⌜ (length (now y) ≤ length (now zones)) × (length (now y) ≤ length (now ends)) × (length (now y) ≤ length (now slots)) ⌝ }
+    requires { ⌜ (blockCount (now y) ≤ rowCount (now zones)) × (blockCount (now y) ≤ rowCount (now ends)) × (blockCount (now y) ≤ rowCount (now slots)) ⌝ }
     ensures { λ r. ⌜ Tails (paddedAt (setOf pad) (shapeOf (now (y .entry)))) (setOf pad) (total (shapeOf (now (y .entry)))) r ⌝ }
 {
     let end = sets::single(m);

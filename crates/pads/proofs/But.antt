@@ -9,8 +9,8 @@ use lib.Dec.{lit<}
 use lib.ListN.{length, replicate}
 use Rattle.bases.specs.Base.{Holds, Empty, leastOf, greatestOf}
 use Rattle.bases.proofs.Laws.{none-in-zero, least-of, greatest-of}
-use Rattle.shapes.specs.All.{All, more}
-use Rattle.shapes.proofs.All.{all-left}
+use Rattle.plain.specs.All.{All, more}
+use Rattle.plain.proofs.All.{all-left}
 use Rattle.texts.specs.Padding.{blank, Padded, BlanksBehind}
 use Rattle.texts.proofs.Padding.{behind-padded, padded-behind}
 use Rattle.pads.specs.But.{blanks, Behind, But}

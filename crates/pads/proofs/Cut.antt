@@ -1,4 +1,5 @@
--- The runs that a block has in pairs of readings of one text, but for padding, are those that paths tell of. Assumes nothing.
+-- The runs that a block has in pairs of readings of one text, but for padding, are those that paths tell of. Assumes
+-- nothing.
 use mathlib.Core.Path.{_≡_, refl, sym, ap, _∙_, subst}
 use mathlib.Core.List.{List, [], _∷_, _++_, append-assoc}
 use mathlib.Core.Logic.{⊎-elim}
@@ -6,17 +7,17 @@ use Prim.Native.Nat.{ℕ, suc, _+_, _≤_, _<_}
 use native.Mathlib.Omega.{arith}
 use lib.ListN.{length, length-append}
 use Rattle.bases.specs.Base.{Holds}
-use Rattle.bases.proofs.Plain.{lt-or-le}
-use Rattle.shapes.specs.All.{All, more}
+use Rattle.plain.proofs.Plain.{lt-or-le}
+use Rattle.plain.specs.All.{All, more}
 use Rattle.shapes.specs.Shape.{Block, Run}
-use Rattle.shapes.proofs.All.{all-append, all-left, all-right, all-head, all-tail}
+use Rattle.plain.proofs.All.{all-append, all-left, all-right, all-head, all-tail}
 use Rattle.hulls.specs.Hull.{Occurs, Tight}
 use Rattle.hulls.proofs.Tight.{all-from}
-use Rattle.rests.specs.Walk.{Walk, step}
-use Rattle.rests.proofs.Walks.{walk-from, walk-to, walk-text, walk-append, split-text, split-char}
-use Rattle.rests.proofs.Laid.{Has, run-walk, walk-run, enter}
-use Rattle.rests.proofs.Cut.{last-of, occurs-split, occurs-within, last-text, within-text, to-within, from-within}
-use Rattle.pads.specs.Pad.{after, PadPath, Ending}
+use Rattle.walks.specs.Walk.{Walk, step}
+use Rattle.walks.proofs.Walks.{walk-from, walk-to, walk-text, walk-append, split-text, split-char}
+use Rattle.walks.proofs.Laid.{Has, run-walk, walk-run, enter}
+use Rattle.walks.proofs.Cut.{last-of, occurs-split, occurs-within, last-text, within-text, to-within, from-within}
+use Rattle.pads.specs.Pad.{after, PadPath, UpToEnd}
 use Rattle.pads.specs.Collect.{Passes, Ends, empty, filled, Collected}
 use Rattle.pads.proofs.Unroll.{clip, clip-low, clip-high, clip-below, clip-end, clip-on, unroll, joint, Texts, texts}
 
@@ -26,8 +27,8 @@ pub record Place (X Y : ℕ → Block) (U W p : ℕ) (b : Block) : Type 0 where
   pub ordered : b .lower ≤ b .upper
   pub edge : (y : ℕ) → y < p → y + X y .upper ≤ p
   pub fits : p + b .upper ≤ U
-  pub own : Ending X U
-  pub other : Ending Y W
+  pub own : UpToEnd X U
+  pub other : UpToEnd Y W
 
 -- a pair of readings of one text in which the block has the run r; padding may stand at the end of each
 pub record RunIn (X Y : ℕ → Block) (U W p : ℕ) (b : Block) (r : List ℕ) : Type 0 where
@@ -91,7 +92,8 @@ module _ {X Y : ℕ → Block} {U W p : ℕ} {b : Block} (at : Place X Y U W p b
       let l = last-of c r in
       subst (λ (r : List ℕ). Ends X Y U W p b (length r)) (sym (l .2)) (ends-filled (l .0) (l .1) (subst (RunIn X Y U W p b) (l .2) i))
 
-  -- an empty run: where the block has room, its start is before the end and stands for itself; where not, its start is its end
+  -- an empty run: where the block has room, its start is before the end and stands for itself; where not, its start is
+  -- its end
   empty-run : {j : ℕ} → b .lower ≡ 0 → PadPath X Y p j 0 0 → PadPath X Y U W (p + b .upper) j → RunIn X Y U W p b []
   empty-run {j} low pre post = ⊎-elim
       (λ none.

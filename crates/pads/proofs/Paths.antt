@@ -6,15 +6,14 @@ use mathlib.Core.Logic.{⊎-elim}
 use Prim.Native.Nat.{ℕ, zero, suc, _+_, _-_, _≤_, _<_}
 use native.Mathlib.Omega.{arith}
 use borrow.Author.Tests.{eq-eqb, ne-eqb}
-use lib.Dec.{eqb}
 use Rattle.bases.specs.Base.{Holds, Empty}
 use Rattle.bases.proofs.Laws.{none-in-zero}
-use Rattle.bases.proofs.Plain.{lt-or-le, eq-or-ne}
+use Rattle.plain.proofs.Plain.{lt-or-le, eq-or-ne}
 use Rattle.shapes.specs.Shape.{Block, total}
-use Rattle.rests.specs.Walk.{pick, slotAt, Move, Path}
-use Rattle.rests.specs.Walk as walk
-use Rattle.rests.proofs.Laid.{slot-here, slot-after, slot-end, in-slots, slots}
-use Rattle.pads.specs.Pad.{behindAll, paddedAt, one, after, PadMove, first, second, both, PadPath, stay, move, Ending, Roomy}
+use Rattle.walks.specs.Walk.{pick, slotAt, Path}
+use Rattle.walks.specs.Walk as walk
+use Rattle.walks.proofs.Laid.{slot-here, slot-after, slot-end, in-slots, slots}
+use Rattle.pads.specs.Pad.{behindAll, paddedAt, one, after, PadMove, first, second, both, PadPath, stay, move, UpToEnd, Roomy}
 
 -- ---- the slots
 
@@ -39,7 +38,7 @@ padded-nothing s i = ⊎-elim
 pub slots-nothing : (s : List Block) → paddedAt 0 s ≡ slotAt s
 slots-nothing s = λ e i. padded-nothing s i e
 
-pub ended : (pad : ℕ) (s : List Block) → Ending (paddedAt pad s) (total s)
+pub ended : (pad : ℕ) (s : List Block) → UpToEnd (paddedAt pad s) (total s)
 ended pad s = record {
   room = λ p h. subst (λ (b : Block). 0 < b .upper) (sym (padded-below pad s p h)) (in-slots (slots s) p (omega arith) (omega arith) .room);
   within = λ p h. subst (λ (b : Block). p + b .upper ≤ total s) (sym (padded-below pad s p h)) (let w = in-slots (slots s) p (omega arith) (omega arith) .within in omega arith);

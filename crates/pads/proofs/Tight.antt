@@ -1,5 +1,5 @@
--- Narrowing two shapes under equality but for padding, told by paths: none exactly if no path leads both from their starts to their ends,
--- and otherwise the blocks that paths tell of. Assumes nothing.
+-- Narrowing two shapes under equality but for padding, told by paths: none exactly if no path leads both from their
+-- starts to their ends, and otherwise the blocks that paths tell of. Assumes nothing.
 use mathlib.Core.Path.{_≡_, refl, sym, ap, _∙_, subst, subst₂}
 use mathlib.Core.List.{List, [], _++_, append-assoc}
 use mathlib.Core.Logic.{⊎-elim}
@@ -8,23 +8,23 @@ use native.Mathlib.Omega.{arith}
 use lib.ListN.{length, getD, take, length-append, List·getD-append}
 use lib.Seq.{getD-take, getD-drop, getD-append-add}
 use Rattle.bases.specs.Base.{Holds}
-use Rattle.bases.proofs.Plain.{lt-or-le}
-use Rattle.shapes.specs.All.{All, more}
+use Rattle.plain.proofs.Plain.{lt-or-le}
+use Rattle.plain.specs.All.{All, more}
 use Rattle.shapes.specs.Shape.{Block, Sound, Run, Filling, Fits, textOf, total, noBlock}
-use Rattle.shapes.proofs.All.{all-at}
+use Rattle.plain.proofs.All.{all-at}
 use Rattle.hulls.specs.Hull.{Pairs, Satisfies, None, Some, Taken, Tight, Hull}
 use Rattle.hulls.proofs.Fill.{filling-size, split-first, split-second, pair-satisfies}
 use Rattle.hulls.proofs.Tight.{tight-same}
-use Rattle.rests.specs.Walk.{slotAt, Walk, here, skip, step}
-use Rattle.rests.proofs.Walks.{walk-from, walk-to, walk-text, walk-append, forwards}
-use Rattle.rests.proofs.Laid.{slots, bounded, in-slots, enter}
-use Rattle.rests.proofs.Fillings.{Around, Rejoined, filling-walk, walk-fits, around, rejoin, total-take, slots-take, has-at, start-at}
+use Rattle.walks.specs.Walk.{slotAt, Walk, here, skip, step}
+use Rattle.walks.proofs.Walks.{walk-from, walk-to, walk-text, walk-append, forwards}
+use Rattle.walks.proofs.Laid.{slots, bounded, in-slots, enter}
+use Rattle.walks.proofs.Fillings.{Around, Rejoined, filling-walk, walk-fits, around, rejoin, total-take, slots-take, has-at, start-at}
 use Rattle.pads.specs.But.{Behind, But}
 use Rattle.pads.specs.Pad.{behindAll, paddedAt, PadPath}
 use Rattle.pads.specs.Collect.{Ends, Collected}
 use Rattle.pads.proofs.But.{but-turned, but-common}
 use Rattle.pads.proofs.Paths.{padded-below, padded-end, ended}
-use Rattle.pads.proofs.Unroll.{clip, clip-low, clip-high, clip-end, unroll, run-below, joint, texts}
+use Rattle.pads.proofs.Unroll.{clip-low, clip-high, clip-end, unroll, run-below, joint, texts}
 use Rattle.pads.proofs.Cut.{Place, RunIn, ends-of, collected-tight}
 
 -- ---- a shape that goes on for ever over padding

@@ -1,5 +1,5 @@
--- A shape with padding behind it as one that goes on for ever: past the end each position allows the padding. What leads both shapes there, one character after the
--- other, leads both shapes here, and back. Assumes nothing.
+-- A shape with padding behind it as one that goes on for ever: past the end each position allows the padding. What
+-- leads both shapes there, one character after the other, leads both shapes here, and back. Assumes nothing.
 use mathlib.Core.Path.{_≡_, refl, sym, ap, _∙_, subst}
 use mathlib.Core.Bool.{Bool, true, false}
 use mathlib.Core.List.{List}
@@ -9,12 +9,12 @@ use native.Mathlib.Omega.{arith}
 use borrow.Author.Tests.{lt-ltb, le-ltb}
 use lib.Dec.{ltb}
 use Rattle.bases.specs.Base.{Holds, Meets}
-use Rattle.bases.proofs.Plain.{lt-or-le}
+use Rattle.plain.proofs.Plain.{lt-or-le}
 use Rattle.shapes.specs.Shape.{Block}
-use Rattle.rests.specs.Walk as walk
-use Rattle.rests.specs.Walk.{Walk, Path}
-use Rattle.rests.proofs.Walks.{path-of, text-of}
-use Rattle.pads.specs.Pad.{after, first, second, both, PadPath, stay, move, Ending}
+use Rattle.walks.specs.Walk as walk
+use Rattle.walks.specs.Walk.{Walk, Path}
+use Rattle.walks.proofs.Walks.{path-of, text-of}
+use Rattle.pads.specs.Pad.{after, first, second, both, PadPath, stay, move, UpToEnd}
 use Rattle.pads.proofs.Paths.{after-on, after-stays, pad-from, pad-to}
 
 -- the position that a stands for: itself up to the end U, and past it the end
@@ -49,7 +49,7 @@ unroll U X a = X (clip U a)
 
 -- ---- one shape
 
-module _ {X : ℕ → Block} {U : ℕ} (b : Ending X U) where
+module _ {X : ℕ → Block} {U : ℕ} (b : UpToEnd X U) where
   -- a run that may end does so before the end
   pub run-below : (i : ℕ) → X (clip U i) .lower ≡ 0 → i < U
   run-below i l = ⊎-elim (λ h. h) (λ h. absurd (b .no-run (subst (λ (x : ℕ). X x .lower ≡ 0) (clip-high U i h) l))) (lt-or-le i U)
@@ -68,7 +68,7 @@ module _ {X : ℕ → Block} {U : ℕ} (b : Ending X U) where
 
 -- ---- two shapes
 
-module _ {X Y : ℕ → Block} {U W : ℕ} (x : Ending X U) (y : Ending Y W) where
+module _ {X Y : ℕ → Block} {U W : ℕ} (x : UpToEnd X U) (y : UpToEnd Y W) where
   pub clip-path : {m n i j : ℕ} → Path (unroll U X) (unroll W Y) m n i j → PadPath X Y (clip U m) (clip W n) (clip U i) (clip W j)
   clip-path (walk.stay e f) = stay (ap (clip U) e) (ap (clip W) f)
   clip-path {i = i} (walk.move (walk.first l e f) p) = move (first l (ap (clip U) e ∙ clip-run x i l) (ap (clip W) f)) (clip-path p)

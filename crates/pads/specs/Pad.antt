@@ -1,12 +1,13 @@
--- Two shapes read together where padding at the ends does not count (document 02, order 5). Past all blocks stands what may still come, the padding:
--- nothing, or blanks. The end stays where it is when it takes a character of it, so that a shape that has ended waits while the other goes on.
+-- Two shapes read together where padding at the ends does not count (document 02, order 5). Past all blocks stands what
+-- may still come, the padding: nothing, or blanks. The end stays where it is when it takes a character of it, so that a
+-- shape that has ended waits while the other goes on.
 use mathlib.Core.Path.{_≡_}
 use mathlib.Core.List.{List}
 use Prim.Native.Nat.{ℕ, zero, suc, _+_, _≤_, _<_}
 use lib.Dec.{eqb}
 use Rattle.bases.specs.Base.{Holds, Meets}
 use Rattle.shapes.specs.Shape.{Block, total}
-use Rattle.rests.specs.Walk.{pick, slotAt}
+use Rattle.walks.specs.Walk.{pick, slotAt}
 
 -- Behind all blocks: the padding may come, and there is no run to end.
 abbrev pub behindAll : ℕ → Block
@@ -36,7 +37,7 @@ pub data PadPath (X Y : ℕ → Block) (m n : ℕ) : ℕ → ℕ → Type 0 wher
   move : {i j a b : ℕ} → PadMove X Y i j a b → PadPath X Y m n a b → PadPath X Y m n i j
 
 -- Positions up to U, the end: below U each run has room and ends by U; at U there is no run to end and no room.
-pub record Ending (X : ℕ → Block) (U : ℕ) : Type 0 where
+pub record UpToEnd (X : ℕ → Block) (U : ℕ) : Type 0 where
   pub room : (p : ℕ) → p < U → 0 < X p .upper
   pub within : (p : ℕ) → p < U → p + X p .upper ≤ U
   pub no-run : X U .lower ≡ 0 → ⊥
@@ -46,7 +47,8 @@ pub record Ending (X : ℕ → Block) (U : ℕ) : Type 0 where
 pub record Roomy (X : ℕ → Block) : Type 0 where
   pub has : (i c : ℕ) → Holds (X i .base) c → 0 < X i .upper
 
--- The second alone, while the first has ended and waits: from q its runs end, or it takes characters of the padding, and it is then at j.
+-- The second alone, while the first has ended and waits: from q its runs end, or it takes characters of the padding,
+-- and it is then at j.
 pub data Along (Y : ℕ → Block) (pad j : ℕ) : ℕ → Type 0 where
   here : {q : ℕ} → q ≡ j → Along Y pad j q
   skip : {q : ℕ} → Y q .lower ≡ 0 → Along Y pad j (q + Y q .upper) → Along Y pad j q

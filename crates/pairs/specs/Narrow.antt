@@ -1,4 +1,5 @@
--- Document 01, "Narrowing": what narrowing under the relation R promises. Lent: two shapes xs and ys, work, two outputs ox and oy; with ′ they are as handed back.
+-- Document 01, "Narrowing": what narrowing under the relation R promises. Lent: two shapes xs and ys, work, two outputs
+-- ox and oy; with ′ they are as handed back.
 use mathlib.Core.Path.{_≡_}
 use mathlib.Core.Bool.{Bool, true, false}
 use mathlib.Core.List.{List, _++_}
@@ -19,7 +20,8 @@ cleared n work = replicate n 0 ++ drop n work
 abbrev pub Cleared : List ℕ → List ℕ → Type 0
 Cleared work work′ = work′ ≡ cleared 63001 work
 
--- The new shapes are the hull of the pairs of fillings that satisfy R; they stand at the start of the outputs, the entries past them stay.
+-- The new shapes are the hull of the pairs of fillings that satisfy R; they stand at the start of the outputs, the
+-- entries past them stay.
 pub record Narrows (R : List ℕ → List ℕ → Type 0) (xs ys ox oy ox′ oy′ : List ℕ) : Type 0 where
   pub first : List Block
   pub second : List Block

@@ -2,13 +2,12 @@
 use mathlib.Core.Path.{_≡_, refl, sym, _∙_, subst}
 use mathlib.Core.List.{List}
 use mathlib.Core.Logic.{⊎-elim}
-use Prim.Native.Nat.{ℕ, _+_, _-_, _^_, _≤_, _<_}
-use native.Mathlib.Nat.{lt-of-le-of-lt}
+use Prim.Native.Nat.{ℕ, _+_, _-_, _≤_, _<_}
 use native.Mathlib.Omega.{arith}
-use lib.Bits.{bitAnd, and-le-l}
+use lib.Bits.{bitAnd}
 use lib.ListN.{take}
 use Rattle.bases.specs.Base.{Holds, Empty, Least, Greatest}
-use Rattle.bases.proofs.Plain.{lt-or-le}
+use Rattle.plain.proofs.Plain.{lt-or-le}
 use Rattle.sets.specs.Set.{Exactly}
 use Rattle.sets.proofs.Exact.{exactly-as, both-exactly}
 use Rattle.shapes.specs.Shape.{Block, total}
@@ -18,9 +17,6 @@ use Rattle.rows.specs.Row.{rowIn}
 use Rattle.row_blocks.specs.Blocks.{LengthBy, early, full, bare, AnyLength, ToldBy, ToldTo}
 
 -- ---- one block
-
-pub cut-small : (x y : ℕ) {n : ℕ} → n ≡ bitAnd x y → x < 2 ^ 128 → n < 2 ^ 128
-cut-small x y d h = rw d (lt-of-le-of-lt (and-le-l x y) h)
 
 pub held-of : (s t : ℕ) {n : ℕ} {P : ℕ → Type 0} → n ≡ bitAnd s t → Exactly t P → Exactly n (λ q. Holds s q × P q)
 held-of s t d x = exactly-as (λ q h. (h .0, x .so q (h .1))) (λ q h. (h .0, x .has q (h .1))) (both-exactly s t d)

@@ -1,16 +1,16 @@
 -- The output, put together from its blocks. Assumes nothing.
 use mathlib.Core.Path.{_≡_}
 use mathlib.Core.List.{List, _++_}
-use Prim.Native.Nat.{ℕ, _/_, _%_, _^_, _≤_, _<_}
+use Prim.Native.Nat.{ℕ, _%_, _^_, _≤_, _<_}
 use native.Mathlib.Omega.{arith}
 use lib.ListN.{length, getD, take, drop}
-use Rattle.shapes.specs.Shape.{Block, noBlock}
+use Rattle.shapes.specs.Shape.{Block, noBlock, blockSize, blockCount}
 use Rattle.shapes.specs.Lent.{blockAt, shapeOf, wordsOf}
 use Rattle.shapes.proofs.Front.{front-size, front-at, front-out}
 use Rattle.row_blocks.specs.Blocks.{ToldTo}
 
-module _ (xs o o′ : List ℕ) (whole : length xs % 4 ≡ 0) (room : length xs ≤ length o) {chars : List ℕ} {quit moved : ℕ}
-    (s : ToldTo chars quit moved xs (length xs / 4) o o′) where
+module _ (xs o o′ : List ℕ) (whole : length xs % blockSize ≡ 0) (room : length xs ≤ length o) {chars : List ℕ} {quit moved : ℕ}
+    (s : ToldTo chars quit moved xs (blockCount xs) o o′) where
   abbrev pub narrowed : List Block
   narrowed = shapeOf (take (length xs) o′)
 
@@ -20,7 +20,7 @@ module _ (xs o o′ : List ℕ) (whole : length xs % 4 ≡ 0) (room : length xs 
   pub narrowed-size : length narrowed ≡ length (shapeOf xs)
   narrowed-size = front-size xs o′ room-after
 
-  pub narrowed-at : (i : ℕ) → i < length xs / 4 → getD narrowed i noBlock ≡ blockAt o′ i
+  pub narrowed-at : (i : ℕ) → i < blockCount xs → getD narrowed i noBlock ≡ blockAt o′ i
   narrowed-at = front-at xs o′ room-after
 
   -- the output is its new blocks, and what it had past them

@@ -1,4 +1,5 @@
--- What sets of positions tell of a block b that starts at position p: `quit`, where its run may end early, and `moved`, where it takes a character.
+-- What sets of positions tell of a block b that starts at position p: `quit`, where its run may end early, and `moved`,
+-- where it takes a character.
 use mathlib.Core.Path.{_≡_}
 use mathlib.Core.List.{List}
 use Prim.Native.Nat.{ℕ, _+_, _*_, _≤_, _<_}
@@ -31,7 +32,8 @@ AnyLength quit moved p b = (k : ℕ) × LengthBy quit moved p b k
 abbrev pub SomeLength : ℕ → ℕ → List ℕ → ℕ → Type 0
 SomeLength quit moved xs n = (i : ℕ) → i < n → AnyLength quit moved (total (take i (shapeOf xs))) (blockAt xs i)
 
--- The first n blocks of the output are what is told of them, with row i of `chars` for block i; the numbers past block n are as they were.
+-- The first n blocks of the output are what is told of them, with row i of `chars` for block i; the numbers past block
+-- n are as they were.
 pub record ToldTo (chars : List ℕ) (quit moved : ℕ) (xs : List ℕ) (n : ℕ) (o o′ : List ℕ) : Type 0 where
   pub long : length o′ ≡ length o
   pub blocks : (i : ℕ) → i < n → ToldBy (rowIn chars i) quit moved (total (take i (shapeOf xs))) (blockAt xs i) (blockAt o′ i)

@@ -6,9 +6,11 @@ ghost use lib.ListN.{length};
 ghost use Rattle.shapes.specs.Shape.{Small, blockCount};
 ghost use Rattle.sets.specs.Set.{setOf};
 ghost use Rattle.shapes.specs.Lent.{Whole, meant};
+ghost use Rattle.rows.specs.Row.{rowCount};
 ghost use Rattle.row_blocks.specs.Blocks.{AnyLength, SomeLength, ToldBy, ToldTo};
 
-// The block at position p that its characters and the sets of positions tell of: its run may end early, or take all that the block allows.
+// The block at position p that its characters and the sets of positions tell of: its run may end early, or take all
+// that the block allows.
 fn told(b: Block, p: usize, chars: Set, quit: Set, moved: Set) -> Block
     requires { ⌜ Small (meant b) ⌝ }
     requires { ⌜ p + b .upper ≤ 250 ⌝ }
@@ -44,7 +46,7 @@ fn told(b: Block, p: usize, chars: Set, quit: Set, moved: Set) -> Block
 // Writes each block of a shape as it is told.
 pub fn narrow_blocks(x: &[u64], chars: &[u64], quit: Set, moved: Set, out: &mut [u64])
     requires { ⌜ Whole (now x) ⌝ }
-    requires { ⌜ (length (now x) ≤ length (now chars)) × (length (now x) ≤ length (now out)) ⌝ }
+    requires { ⌜ (blockCount (now x) ≤ rowCount (now chars)) × (length (now x) ≤ length (now out)) ⌝ }
     requires { ⌜ SomeLength (setOf quit) (setOf moved) (now x) (blockCount (now x)) ⌝ }
     ensures { λ _. ⌜ ToldTo (now (chars .entry)) (setOf quit) (setOf moved) (now (x .entry)) (blockCount (now (x .entry))) (now (out .entry)) (now (out .exit)) ⌝ }
 {

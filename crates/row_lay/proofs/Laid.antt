@@ -2,22 +2,22 @@
 use mathlib.Core.Path.{_≡_, refl, sym, ap, _∙_, subst}
 use mathlib.Core.List.{List, [], _∷_}
 use mathlib.Core.Logic.{⊎-elim}
-use Prim.Native.Nat.{ℕ, zero, suc, _+_, _-_, _/_, _≤_, _<_}
+use Prim.Native.Nat.{ℕ, zero, suc, _+_, _-_, _≤_, _<_}
 use native.Mathlib.Numerals.{add-one}
 use native.Mathlib.Omega.{arith}
 use lib.ListN.{length, getD, take}
 use lib.Seq.{take-all}
 use Rattle.bases.specs.Base.{Holds, Empty, Meets}
 use Rattle.bases.proofs.Laws.{none-in-zero}
-use Rattle.bases.proofs.Plain.{lt-or-le}
+use Rattle.plain.proofs.Plain.{lt-or-le}
 use Rattle.sets.specs.Set.{Exactly}
 use Rattle.sets.proofs.Exact.{exactly-as}
-use Rattle.shapes.specs.Shape.{Block, noBlock, total}
+use Rattle.shapes.specs.Shape.{Block, noBlock, total, blockCount}
 use Rattle.shapes.specs.Lent.{shapeOf, blockAt}
 use Rattle.shapes.proofs.Lent.{shape-length, shape-at}
-use Rattle.rests.specs.Walk.{lessen, past, slotAt}
-use Rattle.rests.proofs.Laid.{slots, slot-after}
-use Rattle.rests.proofs.Fillings.{total-take, has-at, start-at}
+use Rattle.walks.specs.Walk.{lessen, past, slotAt}
+use Rattle.walks.proofs.Laid.{slots, slot-after}
+use Rattle.walks.proofs.Fillings.{total-take, has-at, start-at}
 use Rattle.rows.specs.Row.{rowIn, PutRow}
 use Rattle.rows.specs.Steps.{InTurn, Matched}
 use Rattle.rows.proofs.Rows.{rows-more}
@@ -36,15 +36,15 @@ take-total (b ∷ s) zero h = omega arith
 take-total (b ∷ s) (suc i) h = let r = take-total s i (omega arith) in omega arith
 
 -- one more block
-pub total-more : (xs : List ℕ) (i : ℕ) → i < length xs / 4 → total (take (i + 1) (shapeOf xs)) ≡ total (take i (shapeOf xs)) + blockAt xs i .upper
+pub total-more : (xs : List ℕ) (i : ℕ) → i < blockCount xs → total (take (i + 1) (shapeOf xs)) ≡ total (take i (shapeOf xs)) + blockAt xs i .upper
 total-more xs i h = ap (λ (n : ℕ). total (take n (shapeOf xs))) (add-one i) ∙ take-total (shapeOf xs) i (let e = shape-length xs in omega arith)
     ∙ ap (λ (b : Block). total (take i (shapeOf xs)) + b .upper) (shape-at xs i noBlock h)
 
-pub upper-within : (xs : List ℕ) (i : ℕ) → i < length xs / 4 → total (take i (shapeOf xs)) + blockAt xs i .upper ≤ total (shapeOf xs)
+pub upper-within : (xs : List ℕ) (i : ℕ) → i < blockCount xs → total (take i (shapeOf xs)) + blockAt xs i .upper ≤ total (shapeOf xs)
 upper-within xs i h = subst (λ (b : Block). total (take i (shapeOf xs)) + b .upper ≤ total (shapeOf xs)) (shape-at xs i noBlock h)
     (total-take (shapeOf xs) i (let e = shape-length xs in omega arith))
 
-pub total-all : (xs : List ℕ) (i : ℕ) → length xs / 4 ≤ i → total (take i (shapeOf xs)) ≡ total (shapeOf xs)
+pub total-all : (xs : List ℕ) (i : ℕ) → blockCount xs ≤ i → total (take i (shapeOf xs)) ≡ total (shapeOf xs)
 total-all xs i h = ap total (take-all i (shapeOf xs) (let e = shape-length xs in omega arith))
 
 -- a later block ends no earlier

@@ -1,4 +1,5 @@
--- A shape laid out in rows of positions, a row to a block: its slots, the positions at which its run may end, and the position where it then is.
+-- A shape laid out in rows of positions, a row to a block: its slots, the positions at which its run may end, and the
+-- position where it then is.
 use mathlib.Core.Path.{_≡_}
 use mathlib.Core.List.{List}
 use Prim.Native.Nat.{ℕ, _+_, _≤_, _<_}

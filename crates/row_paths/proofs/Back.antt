@@ -2,31 +2,29 @@
 use mathlib.Core.Path.{_≡_, refl, sym, subst}
 use mathlib.Core.Bool.{Bool, true, false, not, true≢false}
 use mathlib.Core.Logic.{_⊎_, inl, inr, ⊎-elim}
-use Prim.Native.Nat.{ℕ, _+_, _-_, _/_, _≤_, _<_}
+use Prim.Native.Nat.{ℕ, _+_, _/_, _≤_, _<_}
 use native.Mathlib.Omega.{arith}
 use borrow.Author.Tests.{leb-true, le-leb, lt-leb}
 use lib.Bits.{bitAnd, bitOr}
 use lib.Dec.{leb}
 use Rattle.bases.specs.Base.{Holds, Empty, Meets}
-use Rattle.bases.specs.Tells.{Tells}
+use Rattle.plain.specs.Tells.{Tells}
 use Rattle.bases.proofs.Laws.{none-in-zero}
-use Rattle.bases.proofs.Plain.{lt-or-le, eq-or-ne}
-use Rattle.bases.proofs.Sets.{some-held}
+use Rattle.plain.proofs.Plain.{lt-or-le, eq-or-ne}
+use Rattle.bases.proofs.Sets.{some-held, turned}
 use Rattle.sets.specs.Set.{Exactly}
 use Rattle.sets.proofs.Exact.{exactly-as, exactly-at, none-exactly, both-exactly, either-exactly, down-exactly}
 use Rattle.shapes.specs.Shape.{Block}
 use Rattle.pads.specs.Pad.{PadPath, after, Roomy}
 use Rattle.pads.proofs.Paths.{after-on, after-stays, turn-pad}
 use Rattle.rows.specs.Steps.{Leads, Lands}
+use Rattle.plain.proofs.Tells.{tells-so}
 use Rattle.row_paths.specs.Rows.{Zones, Shares, Into, Inwards, BlockIn, LeadsOn, end, ended, taken, Quits, Takes, From, Seen, Used, Gathered}
 use Rattle.row_paths.proofs.Left.{left-row}
 use Rattle.row_paths.proofs.Forth.{slot-base, slot-lower, slot-upper, block-on}
 
-pub turn-meets : {a b : ℕ} → Meets a b → Meets b a
-turn-meets m = record { shared = m .shared; first = m .second; second = m .first }
-
 pub turn-takes : {X Y : ℕ → Block} {U W h j : ℕ} → Takes X Y U W h j → Takes Y X W U j h
-turn-takes t = record { reached = turn-pad (t .reached); meets = turn-meets (t .meets); on = turn-pad (t .on) }
+turn-takes t = record { reached = turn-pad (t .reached); meets = turned (t .meets); on = turn-pad (t .on) }
 
 -- ---- where runs of Y end early and land in the row
 
@@ -192,10 +190,6 @@ row-before {b = b} z k fits o stop next step seeds small y x se on off ro =
 
 -- ---- all of it
 
-so-true : (r : Bool) {P : Type 0} → Tells r P → P → r ≡ true
-so-true true t p = refl
-so-true false t p = absurd (t .not-so refl p)
-
 not-true : (r : Bool) → not r ≡ true → r ≡ false
 not-true true e = absurd (true≢false (sym e))
 not-true false e = refl
@@ -226,7 +220,7 @@ module _ {X Y : ℕ → Block} {U W : ℕ} {Z E : ℕ → ℕ} {m p : ℕ} {b : 
     row-is = rowed;
     used-is = used-more used here (omega arith) ue (g .used-is) took;
     quit-is = quit-more quit early-cut qe (g .quit-is) (quits-here z rowed cu x ec);
-    own-quit-is = seen-more (Quits X Y U W) (p + o) own-quit own-quit′ ends (λ q w. so-true early te (ends-back q w)) qx (g .own-quit-is);
+    own-quit-is = seen-more (Quits X Y U W) (p + o) own-quit own-quit′ ends (λ q w. tells-so te (ends-back q w)) qx (g .own-quit-is);
     own-moved-is = seen-more (Takes X Y U W) (p + o) own-moved own-moved′ (some-taken here bare tb took) (none-taken here bare tb took) mx (g .own-moved-is);
   }
     where

@@ -1,4 +1,5 @@
--- The characters that blocks are given, block by block of the first shape; before the first and after the last. Assumes nothing.
+-- The characters that blocks are given, block by block of the first shape; before the first and after the last. Assumes
+-- nothing.
 use mathlib.Core.Path.{_≡_, refl, sym, ap, _∙_, subst}
 use mathlib.Core.Bool.{Bool, true, false, not}
 use mathlib.Core.Logic.{_⊎_, inl, inr, ⊎-elim}
@@ -6,12 +7,12 @@ use Prim.Native.Nat.{ℕ, _+_, _≤_, _<_}
 use native.Mathlib.Omega.{arith}
 use lib.Bits.{bitAnd, bitOr}
 use Rattle.bases.specs.Base.{Holds, Empty, Meets}
-use Rattle.bases.specs.Tells.{Tells}
-use Rattle.bases.proofs.Plain.{lt-or-le}
+use Rattle.plain.specs.Tells.{Tells}
+use Rattle.plain.proofs.Plain.{lt-or-le}
 use Rattle.sets.specs.Set.{Exactly}
 use Rattle.sets.proofs.Exact.{exactly-as, exactly-at, none-exactly, both-exactly, either-exactly}
 use Rattle.shapes.specs.Shape.{Block}
-use Rattle.pads.specs.Pad.{after, PadPath, Ending, Along}
+use Rattle.pads.specs.Pad.{after, PadPath, UpToEnd, Along}
 use Rattle.pads.proofs.Paths.{after-stays, turn-pad}
 use Rattle.rows.specs.Steps.{Matched, Given}
 use Rattle.row_paths.specs.Rows.{Quits, Takes, From, Seen, Used, Gives, Gathered}
@@ -115,13 +116,13 @@ module _ {X Y : ℕ → Block} {U W : ℕ} where
 -- ---- at the end of X, where it waits while Y goes on over padding
 
 -- nothing is reached beyond it
-none-beyond : {X Y : ℕ → Block} {U h j : ℕ} → Ending X U → U < h → PadPath X Y h j 0 0 → ⊥
+none-beyond : {X Y : ℕ → Block} {U h j : ℕ} → UpToEnd X U → U < h → PadPath X Y h j 0 0 → ⊥
 none-beyond own l p = let w = pad-within own (turn-pad p) (omega arith) in omega arith
 
-at-most-end : {X Y : ℕ → Block} {U h j : ℕ} → Ending X U → U ≤ h → PadPath X Y h j 0 0 → h ≡ U
+at-most-end : {X Y : ℕ → Block} {U h j : ℕ} → UpToEnd X U → U ≤ h → PadPath X Y h j 0 0 → h ≡ U
 at-most-end own l p = let w = pad-within own (turn-pad p) (omega arith) in omega arith
 
-module _ {X Y : ℕ → Block} {U W pad : ℕ} (own : Ending X U) (padding : X U .base ≡ pad) where
+module _ {X Y : ℕ → Block} {U W pad : ℕ} (own : UpToEnd X U) (padding : X U .base ≡ pad) where
   -- there Y takes padding
   pub taken-last : (f t : ℕ) {u : ℕ} → Exactly f (λ j. PadPath X Y U j 0 0) → Exactly t (λ q. Meets pad (Y q .base) × Along Y pad W (after Y q)) → u ≡ bitAnd f t
       → Exactly u (λ j. Takes X Y U W U j)
@@ -160,7 +161,7 @@ module _ {X Y : ℕ → Block} {U W pad : ℕ} (own : Ending X U) (padding : X U
     }
 
 -- what is moved at the end, and given: from the padding used there
-module _ {X Y : ℕ → Block} {U W pad : ℕ} (own : Ending X U) (padding : X U .base ≡ pad) (u : ℕ) (used : Exactly u (Used X Y U W U (U + 1))) where
+module _ {X Y : ℕ → Block} {U W pad : ℕ} (own : UpToEnd X U) (padding : X U .base ≡ pad) (u : ℕ) (used : Exactly u (Used X Y U W U (U + 1))) where
   pub moved-last : Exactly u (λ j. From U (λ h. Takes Y X W U j h))
   moved-last = exactly-as
       (λ j v. record { number = v .number; from = v .from; has = turn-takes (v .takes) })

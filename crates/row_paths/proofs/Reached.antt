@@ -4,10 +4,10 @@ use mathlib.Core.Logic.{⊎-elim}
 use Prim.Native.Nat.{ℕ, _≤_, _<_}
 use native.Mathlib.Omega.{arith}
 use Rattle.bases.specs.Base.{Holds, Meets}
-use Rattle.bases.proofs.Plain.{lt-or-le}
+use Rattle.plain.proofs.Plain.{lt-or-le}
 use Rattle.sets.specs.Set.{Exactly}
 use Rattle.shapes.specs.Shape.{Block}
-use Rattle.pads.specs.Pad.{after, PadMove, first, second, both, PadPath, stay, move, Ending, Along}
+use Rattle.pads.specs.Pad.{after, PadMove, first, second, both, PadPath, stay, move, UpToEnd, Along}
 use Rattle.pads.proofs.Paths.{after-on, after-stays, pad-then, pad-append}
 use Rattle.rows.specs.Steps.{Leads, there, step}
 use Rattle.row_paths.specs.Rows.{Zones, Entered, start, ended, taken}
@@ -64,7 +64,7 @@ along-then {Y} {pad} {j = j} (Along.here e) v = subst (Along Y pad j) (sym e) v
 along-then (Along.skip l w) v = Along.skip l (along-then w v)
 along-then (Along.take m w) v = Along.take m (along-then w v)
 
-module _ {X Y : ℕ → Block} {U pad : ℕ} (own : Ending X U) (padding : X U .base ≡ pad) where
+module _ {X Y : ℕ → Block} {U pad : ℕ} (own : UpToEnd X U) (padding : X U .base ≡ pad) where
   pub along-path : {j q : ℕ} → Along Y pad j q → PadPath X Y U j U q
   along-path (Along.here e) = stay refl e
   along-path (Along.skip l w) = move (second l refl refl) (along-path w)
@@ -105,7 +105,7 @@ module _ {X Y : ℕ → Block} {U pad : ℕ} (own : Ending X U) (padding : X U .
 
 -- ---- a path from the starts stays within the positions of Y
 
-pub pad-within : {X Y : ℕ → Block} {W m n i j : ℕ} → Ending Y W → PadPath X Y m n i j → j ≤ W → n ≤ W
+pub pad-within : {X Y : ℕ → Block} {W m n i j : ℕ} → UpToEnd Y W → PadPath X Y m n i j → j ≤ W → n ≤ W
 pad-within b (stay e f) h = omega arith
 pad-within b (move (first l e f) p) h = pad-within b p (omega arith)
 pad-within {Y = Y} {W = W} b (move {j = j} (second l e f) p) h = ⊎-elim

@@ -7,13 +7,13 @@ use native.Mathlib.Omega.{arith}
 use lib.ListN.{length, getD, take}
 use Rattle.bases.specs.Base.{Holds, Empty, Meets}
 use Rattle.bases.proofs.Laws.{none-in-zero}
-use Rattle.bases.proofs.Plain.{lt-or-le, eq-or-ne}
+use Rattle.plain.proofs.Plain.{lt-or-le, eq-or-ne}
 use Rattle.sets.specs.Set.{Exactly}
 use Rattle.sets.proofs.Exact.{exactly-as}
 use Rattle.shapes.specs.Shape.{Block, noBlock, total}
-use Rattle.rests.specs.Walk.{slotAt}
-use Rattle.rests.proofs.Laid.{slots, in-slots, bounded}
-use Rattle.rests.proofs.Fillings.{has-at, start-at, slots-take, total-take}
+use Rattle.walks.specs.Walk.{slotAt}
+use Rattle.walks.proofs.Laid.{slots, in-slots, bounded}
+use Rattle.walks.proofs.Fillings.{has-at, start-at, slots-take, total-take}
 use Rattle.pads.specs.Pad.{paddedAt}
 use Rattle.pads.proofs.Paths.{padded-slot, padded-below, padded-end, ended}
 use Rattle.rows.specs.Row.{rowIn}

@@ -5,10 +5,11 @@ use Prim.Native.Nat.{ℕ, _+_, _≤_, _<_}
 use Rattle.bases.specs.Base.{Holds, Meets}
 use Rattle.sets.specs.Set.{Exactly}
 use Rattle.shapes.specs.Shape.{Block}
-use Rattle.rests.specs.Walk.{lessen}
+use Rattle.walks.specs.Walk.{lessen}
 use Rattle.pads.specs.Pad.{PadPath, after}
 
--- The steps of rows are the ends of runs of Y: from each position of Z j the run may end, and is then at the position of E j.
+-- The steps of rows are the ends of runs of Y: from each position of Z j the run may end, and is then at the position
+-- of E j.
 pub record Zones (Y : ℕ → Block) (Z E : ℕ → ℕ) (k : ℕ) : Type 0 where
   pub free : (j q : ℕ) → j < k → Holds (Z j) q → Y q .lower ≡ 0
   pub stop : (j q e : ℕ) → j < k → Holds (Z j) q → Holds (E j) e → e ≡ q + Y q .upper
@@ -46,7 +47,8 @@ pub record Onwards (row on waits r : ℕ) : Type 0 where
 pub record Inwards (row on waits r : ℕ) : Type 0 where
   pub holds : (Y : ℕ → Block) (base : ℕ) → Shares Y base on waits → Exactly r (Into Y base row)
 
--- The pair of i and j is reached from the starts otherwise than by what Y does while X waits: the end of a run of Y, or padding.
+-- The pair of i and j is reached from the starts otherwise than by what Y does while X waits: the end of a run of Y, or
+-- padding.
 pub data Entered (X Y : ℕ → Block) (i j : ℕ) : Type 0 where
   start : i ≡ 0 → j ≡ 0 → Entered X Y i j
   ended : (h : ℕ) → X h .lower ≡ 0 → i ≡ h + X h .upper → PadPath X Y h j 0 0 → Entered X Y i j
@@ -106,8 +108,8 @@ pub record Gives (X Y : ℕ → Block) (U W i e l c : ℕ) : Type 0 where
   pub used : Used X Y U W i e other
   pub holds : Holds (Y other .base) c
 
--- What the second pass knows at position i of X: the row, what the block that ends at e has used so far, and of all positions from i on
--- where runs of Y, and of X, end early, and where X takes a character.
+-- What the second pass knows at position i of X: the row, what the block that ends at e has used so far, and of all
+-- positions from i on where runs of Y, and of X, end early, and where X takes a character.
 pub record Gathered (X Y : ℕ → Block) (U W i e row used quit own-quit own-moved : ℕ) : Type 0 where
   pub row-is : Exactly row (λ j. PadPath X Y U W i j)
   pub used-is : Exactly used (Used X Y U W i e)

@@ -1,14 +1,14 @@
 -- A row closed under all steps at once: what climbs from it through the zones, and what falls to it. Assumes nothing.
 use mathlib.Core.Path.{_≡_, refl, sym, ap, _∙_, subst}
 use mathlib.Core.Logic.{_⊎_, inl, inr, ⊎-elim}
-use Prim.Native.Nat.{ℕ, zero, suc, _+_, _-_, _≤_, _<_}
+use Prim.Native.Nat.{ℕ, zero, suc, _+_, _≤_, _<_}
 use native.Mathlib.Omega.{arith}
 use lib.Bits.{bitAnd, bitOr}
-use Rattle.bases.specs.Base.{Holds, Meets}
-use Rattle.bases.proofs.Plain.{lt-or-le, eq-or-ne}
+use Rattle.bases.specs.Base.{Holds}
+use Rattle.plain.proofs.Plain.{lt-or-le, eq-or-ne}
 use Rattle.sets.specs.Set.{Exactly}
 use Rattle.sets.proofs.Exact.{none-exactly, both-exactly, either-exactly}
-use Rattle.carries.specs.Climb.{Filled, Climbs, Falls}
+use Rattle.carries.specs.Climb.{HeldThrough, Climbs, Falls}
 use Rattle.carries.proofs.Doubled.{joined}
 use Rattle.rows.specs.Steps.{Leads, there, step, Lands, InTurn, AnyOf, Together}
 
@@ -44,7 +44,7 @@ module _ {Z E : ℕ → ℕ} {k F S : ℕ} (turn : InTurn Z E k) (all : Together
   at-end j h = turn .stop j h .has (turn .end j) refl
 
   -- from a number of a zone up to its end
-  run-filled : (j p : ℕ) → j < k → Holds (Z j) p → Filled F p (turn .end j)
+  run-filled : (j p : ℕ) → j < k → Holds (Z j) p → HeldThrough F p (turn .end j)
   run-filled j p h z t l u =
       let a = turn .zone j h .so p z in
       all .free-is .has t (record { number = j; below = h; held = turn .zone j h .has t (omega arith, u) })
@@ -88,7 +88,7 @@ module _ {Z E : ℕ → ℕ} {k F S : ℕ} (turn : InTurn Z E k) (all : Together
     forth-so (step {q = q} {e = e} j l a b t) =
         let at : q ≡ turn .end j = turn .stop j l .so q a in
         let z = turn .zone j l .so e b in
-        let f : Filled F e q = λ u v w. run-filled j e l b u v (omega arith) in
+        let f : HeldThrough F e q = λ u v w. run-filled j e l b u v (omega arith) in
         inr (
           is-stop j q l a,
           ⊎-elim
@@ -97,7 +97,7 @@ module _ {Z E : ℕ → ℕ} {k F S : ℕ} (turn : InTurn Z E k) (all : Together
               (forth-so t),
         )
 
-    forth-mark : (n p q : ℕ) → q ≤ p + n → Leads E Z k s p → p < q → Holds S q → Filled F p q → Leads E Z k s q
+    forth-mark : (n p q : ℕ) → q ≤ p + n → Leads E Z k s p → p < q → Holds S q → HeldThrough F p q → Leads E Z k s q
     forth-mark zero p q m t h g f = absurd (omega arith)
     forth-mark (suc n) p q m t h g f =
         let a = ahead p (f p (omega arith) h) in
@@ -129,7 +129,7 @@ module _ {Z E : ℕ → ℕ} {k F S : ℕ} (turn : InTurn Z E k) (all : Together
     falls-step j q e l a b h =
         let at : e ≡ turn .end j = turn .stop j l .so e b in
         let z = turn .zone j l .so q a in
-        let f : Filled F q e = λ u v w. run-filled j q l a u v (omega arith) in
+        let f : HeldThrough F q e = λ u v w. run-filled j q l a u v (omega arith) in
         ⊎-elim
         (λ o. record { to = e; held = both-exactly s S dt .has e (o, is-stop j e l b); before = omega arith; filled = f })
         (λ v. let before = v .before in record { to = v .to; held = v .held; before = omega arith; filled = joined F q e (v .to) f (v .filled) })

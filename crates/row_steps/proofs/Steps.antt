@@ -8,9 +8,9 @@ use native.Mathlib.Omega.{arith}
 use lib.Bits.{bitOr}
 use lib.ListN.{length}
 use Rattle.bases.specs.Base.{Holds, Meets}
-use Rattle.bases.specs.Tells.{Tells}
-use Rattle.bases.proofs.Plain.{lt-or-le, eq-or-ne}
-use Rattle.bases.proofs.Sets.{either, in-first, in-second}
+use Rattle.plain.specs.Tells.{Tells}
+use Rattle.plain.proofs.Plain.{lt-or-le, eq-or-ne}
+use Rattle.bases.proofs.Sets.{either, in-first, in-second, turned}
 use Rattle.sets.specs.Set.{Exactly}
 use Rattle.sets.proofs.Exact.{none-exactly, exactly-as}
 use Rattle.rows.specs.Row.{rowIn, PutRow}
@@ -49,9 +49,6 @@ tells-met {on} {s} e t = subst (λ (x : ℕ). Tells on (Meets s x)) e t
 
 pub tells-met-word : {on : Bool} {w a b : ℕ} → a ≡ b → Tells on (Meets a w) → Tells on (Meets w b)
 tells-met-word e t = tells-met e (record { so = λ h. turned (t .so h); not-so = λ h m. t .not-so h (turned m) })
-  where
-    turned : {a b : ℕ} → Meets a b → Meets b a
-    turned m = record { shared = m .shared; first = m .second; second = m .first }
 
 -- a set added where a test says so
 pub added-with : {P : Type 0} (on : Bool) {s t u r : ℕ} → Tells on P → u ≡ t → (on ≡ true → r ≡ bitOr s u) → (on ≡ false → r ≡ s) → Added P s t r

@@ -18,7 +18,8 @@ pub struct Closed {
     pub quit: Set,
 }
 
-// All from which s is reached where a run that may end at a position of `zones` is then at its `ends`, from the last of k to the first.
+// All from which s is reached where a run that may end at a position of `zones` is then at its `ends`, from the last of
+// k to the first.
 fn back(zones: &[u64], ends: &[u64], k: usize, s: Set) -> Closed
     requires { ⌜ (k ≤ rowCount (now zones)) × (k ≤ rowCount (now ends)) ⌝ }
     requires { ⌜ InTurn (rowIn (now zones)) (rowIn (now ends)) k ⌝ }
@@ -242,7 +243,8 @@ pub fn give(row: Set, base: Set, rows: &[u64], given: &mut [u64], k: usize)
     give_wide(row, base, rows, given, k);
 }
 
-// Both at once, through the blocks once: the base goes to each of k sets whose row meets a row, and the bases of those blocks are given.
+// Both at once, through the blocks once: the base goes to each of k sets whose row meets a row, and the bases of those
+// blocks are given.
 fn share_wide(row: Set, base: Set, blocks: &[u64], rows: &[u64], given: &mut [u64], k: usize) -> Set
     requires { ⌜ (k ≤ blockCount (now blocks)) × (k ≤ rowCount (now rows)) × (k ≤ rowCount (now given)) ⌝ }
     ensures { λ r. ⌜ Exactly (setOf r) (Matched (rowIn (now (rows .entry))) (λ j. blockAt (now (blocks .entry)) j .base) k (setOf row)) ⌝ }

@@ -1,26 +1,28 @@
 -- A row is a set of positions in four words, as `sets` reads them; rows stand one after the other.
 use mathlib.Core.Path.{_≡_}
-use mathlib.Core.List.{List, [], _∷_}
-use Prim.Native.Nat.{ℕ, _+_, _*_, _/_}
-use lib.ListN.{length, getD}
+use mathlib.Core.List.{List}
+use Prim.Native.Nat.{ℕ, _*_}
+use lib.ListN.{length}
+use Rattle.plain.specs.Items.{itemAt, itemCount}
 use Rattle.bases.specs.Base.{baseOf}
 
--- So many words are a row; so many rows are some words. A layout has a row for each of 32 blocks, a table for each position from 0 to 250.
+-- So many words are a row; so many rows are some words. A layout has a row for each of 32 blocks, a table for each
+-- position from 0 to 250.
 abbrev pub rowSize : ℕ
 rowSize = 4
 
 abbrev pub rowCount : List ℕ → ℕ
-rowCount xs = length xs / rowSize
+rowCount xs = itemCount rowSize xs
 
 abbrev pub layoutSize : ℕ
-layoutSize = 128
+layoutSize = 32 * rowSize
 
 abbrev pub tableSize : ℕ
-tableSize = 1004
+tableSize = 251 * rowSize
 
 -- Row j.
 abbrev pub rowIn : List ℕ → ℕ → ℕ
-rowIn xs j = baseOf (getD xs (j * rowSize) 0 ∷ (getD xs (j * rowSize + 1) 0 ∷ (getD xs (j * rowSize + 2) 0 ∷ (getD xs (j * rowSize + 3) 0 ∷ []))))
+rowIn xs j = baseOf (itemAt rowSize xs j)
 
 -- Row j is set to s, and no other row is changed.
 pub record PutRow (w : List ℕ) (j s : ℕ) (w′ : List ℕ) : Type 0 where

@@ -17,7 +17,8 @@ pub record Lands (A B : ℕ → ℕ) (k s q : ℕ) : Type 0 where
   pub from : Holds (A number) q
   pub to : Meets (B number) s
 
--- Each step goes from the numbers of its zone, without a gap from the first up to the end, to that end; and each zone lies past the ends of the steps before.
+-- Each step goes from the numbers of its zone, without a gap from the first up to the end, to that end; and each zone
+-- lies past the ends of the steps before.
 pub record InTurn (Z E : ℕ → ℕ) (k : ℕ) : Type 0 where
   pub first : ℕ → ℕ
   pub end : ℕ → ℕ
@@ -36,7 +37,8 @@ pub record Together (Z E : ℕ → ℕ) (k free stops : ℕ) : Type 0 where
   pub free-is : Exactly free (AnyOf Z k)
   pub stops-is : Exactly stops (AnyOf E k)
 
--- r is all that is reached from s; all from which s is reached, with from where a step lands in it: whichever steps these are the zones and ends of.
+-- r is all that is reached from s; all from which s is reached, with from where a step lands in it: whichever steps
+-- these are the zones and ends of.
 pub record ClosedForth (free stops s r : ℕ) : Type 0 where
   pub holds : (Z E : ℕ → ℕ) (k : ℕ) → InTurn Z E k → Together Z E k free stops → Exactly r (Leads E Z k s)
 

@@ -36,15 +36,15 @@ pub fn put_row(rows: &mut [u64], j: usize, s: Set)
 }
 
 // No rows yet: room for those of 32 blocks.
-pub fn blank() -> [u64; 128]
+pub fn blank() -> [u64; 32 * SIZE]
     ensures { λ r. ⌜ r ≡ replicate layoutSize 0 ⌝ }
 {
-    [0u64; 128]
+    [0u64; 32 * SIZE]
 }
 
 // No rows yet: room for those of 251 positions.
-pub fn blank_table() -> [u64; 1004]
+pub fn blank_table() -> [u64; 251 * SIZE]
     ensures { λ r. ⌜ r ≡ replicate tableSize 0 ⌝ }
 {
-    [0u64; 1004]
+    [0u64; 251 * SIZE]
 }

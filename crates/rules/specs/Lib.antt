@@ -1,2 +1,3 @@
--- A rule as numbers.
+-- A rule as numbers, and how large a book may be.
 pub mod Rule
+pub mod Limits

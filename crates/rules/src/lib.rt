@@ -13,7 +13,15 @@ pub struct Rule {
 // How many numbers a rule is.
 pub const SIZE: usize = 4;
 
-// The kinds: equal once trailing blanks are dropped, at most, before, equal to the letter, equal but for letter case; a join is the one that names three texts.
+// A book has at most so many texts, blocks and rules.
+pub const TEXTS: usize = 8;
+
+pub const BLOCKS: usize = 256;
+
+pub const RULES: usize = 16;
+
+// The kinds: equal once trailing blanks are dropped, at most, before, equal to the letter, equal but for letter case; a
+// join is the one that names three texts.
 pub const PADDED: u64 = 0;
 
 pub const AT_MOST: u64 = 1;

@@ -10,10 +10,10 @@ use lib.Bits.{bitAnd, bitOr, bitXor, and-shr, and-mod, xor-shr, xor-mod, and-zer
 use lib.Dec.{lit<, eqb}
 use lib.Pow.{pow-mono, pow-pos, field, mod-mod-pow, ones-split, ones-lt, high, shr-shr, shl-shr, shl-exact}
 use Rattle.bases.specs.Base.{Holds, Empty}
-use Rattle.bases.specs.Tells.{Tells}
+use Rattle.plain.specs.Tells.{Tells}
 use Rattle.bases.proofs.Laws.{halved, none-in-zero}
-use Rattle.bases.proofs.Tells.{tells-bit}
-use Rattle.bases.proofs.Plain.{lt-or-le, eq-or-ne}
+use Rattle.plain.proofs.Tells.{tells-bit}
+use Rattle.plain.proofs.Plain.{lt-or-le, eq-or-ne}
 use Rattle.bases.proofs.Sets.{same-base, within-most, both, shared, either, in-first, in-second}
 use Rattle.sets.specs.Set.{Exactly, OneUp}
 

@@ -1,18 +1,19 @@
 -- The laws of a set's four words: those of one word more, four times. Assumes nothing.
 use mathlib.Core.Path.{_≡_, refl, sym, ap, _∙_, subst}
-use mathlib.Core.List.{[], _∷_}
+use mathlib.Core.List.{[]}
 use Prim.Native.Nat.{ℕ, _+_, _-_, _*_, _/_, _%_, _^_, _≤_, _<_}
 use native.Mathlib.Nat.{mod-one, add-zero}
 use native.Mathlib.Omega.{arith}
 use lib.Bits.{bitAnd, bitOr, bitXor, and-block, or-block, xor-block, and-zero-l, or-zero-l, or-zero-r, xor-zero-l}
 use lib.Bits.{or-add-and, and-le-l, and-le-r}
 use lib.Dec.{lit<}
-use Rattle.bases.specs.Base.{baseOf, Holds, Empty, Least, Greatest}
-use Rattle.bases.proofs.Laws.{first-word, next-words, empty-zero, none-in-zero, greatest-next, words-bound}
+use Rattle.bases.specs.Base.{baseOf, Empty, Least, Greatest}
+use Rattle.bases.proofs.Laws.{first-word, next-words, none-in-zero, greatest-next}
+use Rattle.bases.proofs.Words.{bound-more}
 use Rattle.sets.specs.declared.Set.{Set}
 use Rattle.sets.specs.Set.{setOf, Exactly, Proper}
 use Rattle.sets.proofs.Exact.{exactly-as, none-exactly}
-use Rattle.sets.proofs.Words.{no-word, exactly-more, bound-more, Bitwise, each-more, down-more, down-last, up-more}
+use Rattle.sets.proofs.Words.{no-word, exactly-more, Bitwise, each-more, down-more, down-last, up-more}
 use Rattle.sets.proofs.Words.{empty-more, more-empty, least-here, least-later, greatest-here}
 
 -- ---- how far a set goes
@@ -21,21 +22,6 @@ pub set-bound : (s : Set) → Proper s → setOf s < 2 ^ 256
 unfolding setOf
 set-bound s f =
     bound-more 192 _ _ (f .a) (bound-more 128 _ _ (f .b) (bound-more 64 _ _ (f .c) (bound-more 0 _ _ (f .d) (rw no-word (lit< tt)))))
-
--- a set of two words
-pub two-words-bound : (low high : ℕ) {n : ℕ} → low < 2 ^ 64 → high < 2 ^ 64 → n ≡ baseOf (low ∷ (high ∷ [])) → n < 2 ^ 128
-two-words-bound low high l h d = rw d (words-bound low high l h)
-
--- a set of numbers below 128 is that of its first two words
-pub first-two-words : (s : Set) → Proper s → ((e : ℕ) → Holds (setOf s) e → e < 128) → setOf s ≡ baseOf (s .a ∷ (s .b ∷ []))
-unfolding setOf baseOf Holds Empty
-first-two-words s f u = ap (λ (x : ℕ). (x * 2 ^ 64 + s .b) * 2 ^ 64 + s .a) (empty-zero (baseOf (s .c ∷ (s .d ∷ []))) none)
-  where
-    none : (e : ℕ) → baseOf (s .c ∷ (s .d ∷ [])) / 2 ^ e % 2 ≡ 1 → ⊥
-    none e h =
-        let second = next-words (s .b) e (s .c ∷ (s .d ∷ [])) (f .b) in
-        let l = u (64 + (64 + e)) (next-words (s .a) (64 + e) (s .b ∷ (s .c ∷ (s .d ∷ []))) (f .a) ∙ second ∙ h) in
-        omega arith
 
 -- ---- which numbers it holds, by those of each word
 

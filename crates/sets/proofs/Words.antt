@@ -4,13 +4,12 @@ use mathlib.Core.List.{List, [], _∷_}
 use mathlib.Core.Logic.{⊎-elim}
 use Prim.Native.Nat.{ℕ, _+_, _-_, _*_, _/_, _%_, _^_, _≤_, _<_}
 use native.Mathlib.Omega.{arith}
-use lib.Arith.{digits-lt}
 use lib.Bits.{bitOr, or-shifted, or-shifted-r, block-half, block-odd}
 use lib.Count.{trailingZeros}
-use lib.Pow.{pow-add, mod-pow-add, high, low}
+use lib.Pow.{mod-pow-add, high, low}
 use Rattle.bases.specs.Base.{baseOf, Holds, Empty, Least, Greatest}
 use Rattle.bases.proofs.Laws.{one-word, first-word, next-words, empty-zero, none-in-zero, least-first, least-next}
-use Rattle.bases.proofs.Plain.{lt-or-le}
+use Rattle.plain.proofs.Plain.{lt-or-le}
 use Rattle.sets.specs.Set.{Exactly}
 
 -- ---- where a number stands
@@ -41,10 +40,6 @@ exactly-more {P} w ws h x rest = record {
   where
     back : (e : ℕ) → 64 ≤ e → 64 + (e - 64) ≡ e
     back e l = omega arith
-
-pub bound-more : (k w : ℕ) (ws : List ℕ) → w < 2 ^ 64 → baseOf ws < 2 ^ k → baseOf (w ∷ ws) < 2 ^ (k + 64)
-unfolding baseOf
-bound-more k w ws h l = rw (pow-add 2 k 64) (digits-lt l h)
 
 -- ---- an operation that goes bit by bit: the parts of two numbers below and above a place go by themselves
 

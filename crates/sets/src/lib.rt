@@ -4,7 +4,7 @@ ghost use mathlib.Core.List.{[], _∷_};
 ghost use Prim.Native.Nat.{_+_, _*_, _/_, _%_, _^_, _≤_, _<_};
 ghost use lib.Bits.{bitAnd, bitOr};
 ghost use Rattle.bases.specs.Base.{baseOf, Holds, Empty, Meets, Least, Greatest};
-ghost use Rattle.bases.specs.Tells.{Tells};
+ghost use Rattle.plain.specs.Tells.{Tells};
 ghost use Rattle.sets.specs.Set.{setOf, Exactly};
 
 // Bit k of `a` stands for k, of `b` for 64 + k, of `c` for 128 + k, of `d` for 192 + k.

@@ -3,7 +3,7 @@ use answers::Checked;
 use answers::Refusal;
 use shapes::Block;
 ghost use Prim.Native.Nat.{_≤_, _<_};
-ghost use Rattle.bases.specs.Tells.{Tells};
+ghost use Rattle.plain.specs.Tells.{Tells};
 ghost use Rattle.shapes.specs.Shape.{blockCount};
 ghost use Rattle.shapes.specs.Wrong.{Disagree, BlockChecked};
 ghost use Rattle.shapes.specs.Lent.{meant, shapeOf, BlocksChecked, ShapeChecked};
@@ -80,7 +80,7 @@ pub fn check_lent(shape: &[u64], number: u64) -> Checked
     if n == 0 {
         return Checked::Refused(Refusal::Length(number));
     }
-    if 128 < n {
+    if shapes::MOST * shapes::SIZE < n {
         return Checked::Refused(Refusal::Length(number));
     }
     check_blocks(shape, number)

@@ -1,12 +1,12 @@
 -- Fitting, block by block: the first block takes some characters, the others the rest. Assumes nothing.
 use mathlib.Core.Path.{_≡_, refl, sym, ap, _∙_, subst}
 use mathlib.Core.List.{List, [], _∷_, _++_}
-use Prim.Native.Nat.{ℕ, _+_, _-_, _≤_}
+use Prim.Native.Nat.{ℕ, _-_, _≤_}
 use native.Mathlib.Omega.{arith}
 use lib.ListN.{length, take, drop, length-append, take-append-drop}
 use lib.Seq.{take-append-seam, drop-append-seam, length-take-le}
 use Rattle.bases.specs.Base.{Holds}
-use Rattle.shapes.specs.All.{All}
+use Rattle.plain.specs.All.{All}
 use Rattle.shapes.specs.Shape.{Block, Run, Filling, Fits, textOf, total}
 use Rattle.shapes.specs.Shape.Filling.{done, fill}
 

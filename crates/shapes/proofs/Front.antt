@@ -5,27 +5,26 @@ use Prim.Native.Nat.{ℕ, _+_, _-_, _*_, _/_, _%_, _^_, _≤_, _<_}
 use native.Mathlib.Omega.{arith}
 use lib.ListN.{length, getD, take, drop, length-drop, take-append-drop}
 use lib.Seq.{ext-getD, getD-take, getD-drop, length-take-le}
-use Rattle.shapes.specs.Shape.{noBlock}
-use Rattle.shapes.specs.Lent.{blockAt, shapeOf, wordsOf}
-use Rattle.shapes.proofs.All.{all-of}
+use Rattle.plain.proofs.All.{all-of}
+use Rattle.plain.proofs.Items.{numbers-same}
+use Rattle.shapes.specs.Shape.{noBlock, blockSize, blockCount}
+use Rattle.shapes.specs.Lent.{blockOf, blockAt, shapeOf, wordsOf}
 use Rattle.shapes.proofs.Lent.{shape-length, shape-at}
 use Rattle.shapes.proofs.Numbers.{words-shape}
-use Rattle.shapes.proofs.Put.{blocks-same}
 
 module _ (xs o : List ℕ) (room : length xs ≤ length o) where
   pub front-length : length (take (length xs) o) ≡ length xs
   front-length = length-take-le (length xs) o room
 
   pub front-size : length (shapeOf (take (length xs) o)) ≡ length (shapeOf xs)
-  front-size = shape-length (take (length xs) o) ∙ ap (λ (n : ℕ). n / 4) front-length ∙ sym (shape-length xs)
+  front-size = shape-length (take (length xs) o) ∙ ap (λ (n : ℕ). n / blockSize) front-length ∙ sym (shape-length xs)
 
-  pub front-at : (i : ℕ) → i < length xs / 4 → getD (shapeOf (take (length xs) o)) i noBlock ≡ blockAt o i
-  front-at i h = shape-at (take (length xs) o) i noBlock (let e = front-length in omega arith) ∙ blocks-same
-      (getD-take (length xs) o (i * 4) 0 (omega arith)) (getD-take (length xs) o (i * 4 + 1) 0 (omega arith))
-      (getD-take (length xs) o (i * 4 + 2) 0 (omega arith)) (getD-take (length xs) o (i * 4 + 3) 0 (omega arith))
+  pub front-at : (i : ℕ) → i < blockCount xs → getD (shapeOf (take (length xs) o)) i noBlock ≡ blockAt o i
+  front-at i h = shape-at (take (length xs) o) i noBlock (let e = front-length in omega arith)
+      ∙ ap blockOf (numbers-same blockSize (take (length xs) o) o (i * blockSize) (i * blockSize) (λ j l. getD-take (length xs) o (i * blockSize + j) 0 (omega arith)))
 
 -- an output whose numbers past its front are those of another is its blocks, and what the other had past them
-module _ (xs o o′ : List ℕ) (whole : length xs % 4 ≡ 0) (room : length xs ≤ length o) (long : length o′ ≡ length o)
+module _ (xs o o′ : List ℕ) (whole : length xs % blockSize ≡ 0) (room : length xs ≤ length o) (long : length o′ ≡ length o)
     (kept : (k : ℕ) → length xs ≤ k → getD o′ k 0 ≡ getD o k 0) where
   pub front-out : ((k : ℕ) → getD o′ k 0 < 2 ^ 64) → o′ ≡ wordsOf (shapeOf (take (length xs) o′)) ++ drop (length xs) o
   front-out fits = sym (take-append-drop (length xs) o′) ∙ ap₂ _++_ (sym words) rest

@@ -1,6 +1,4 @@
 -- The laws of shapes that other crates cite.
-pub mod All
-pub mod FirstBad
 pub mod Lent
 pub mod Wrong
 pub mod Refused

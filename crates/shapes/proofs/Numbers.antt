@@ -1,45 +1,84 @@
 -- The numbers of a shape and the shape of some numbers undo each other. Assumes nothing.
-use mathlib.Core.Path.{_≡_, refl, ap, _∙_}
-use mathlib.Core.List.{List, [], _∷_}
-use Prim.Native.Nat.{ℕ, _+_, _*_, _/_, _%_, _^_, _<_}
+use mathlib.Core.Path.{_≡_, refl, sym, ap, ap₂, _∙_}
+use mathlib.Core.List.{List, [], _∷_, _++_, map}
+use Prim.Native.Nat.{ℕ, _+_, _-_, _*_, _%_}
 use native.Mathlib.Omega.{arith}
-use lib.ListN.{length}
-use lib.Pow.{split, high, low}
-use Rattle.bases.specs.Base.{baseOf}
-use Rattle.bases.proofs.Laws.{one-word}
-use Rattle.shapes.specs.All.{All}
-use Rattle.shapes.specs.All.All.{more}
-use Rattle.shapes.specs.Shape.{Block}
-use Rattle.shapes.specs.Lent.{shapeOf, wordsOf}
+use lib.Dec.{lit<}
+use lib.ListN.{length, getD, take, drop, length-append, length-drop, length-map, take-append-drop}
+use lib.Seq.{take-at, drop-at, getD-drop, length-take-le, take-all}
+use Rattle.plain.specs.All.{All}
+use Rattle.plain.specs.All.All.{none, more}
+use Rattle.plain.specs.Items.{itemsOf, joinItems}
+use Rattle.plain.proofs.All.{all-take}
+use Rattle.plain.proofs.Items.{numbers-taken, items-sized, items-all, items-back, join-back, join-length, join-append, map-join}
+use Rattle.bases.specs.Base.{Word, baseOf, wordsIn, baseWords}
+use Rattle.bases.proofs.Words.{words-count, base-back, words-back}
+use Rattle.shapes.specs.Shape.{Block, blockSize, blockCount}
+use Rattle.shapes.specs.Lent.{Numbers, blockOf, numbersOf, shapeOf, wordsOf}
 
-base-back : (b : ℕ) → baseOf (b % 2 ^ 64 ∷ (b / 2 ^ 64 ∷ [])) ≡ b
-unfolding baseOf
-base-back b = ap (λ (x : ℕ). x * 2 ^ 64 + b % 2 ^ 64) (one-word (b / 2 ^ 64)) ∙ split b 64
+-- ---- one block
+
+pub numbers-count : (b : Block) → length (numbersOf b) ≡ blockSize
+numbers-count b = let a = length-append (wordsIn baseWords (b .base)) (b .lower ∷ (b .upper ∷ [])) in let n = words-count baseWords (b .base) in omega arith
+
+pub block-numbers : (b : Block) → blockOf (numbersOf b) ≡ b
+block-numbers b = λ i. record { base = base i; lower = lower i; upper = upper i }
+  where
+    words : List ℕ
+    words = wordsIn baseWords (b .base)
+
+    base : baseOf (take baseWords (numbersOf b)) ≡ b .base
+    base = ap baseOf (take-at words (b .lower ∷ (b .upper ∷ [])) baseWords (words-count baseWords (b .base))) ∙ base-back (baseWords - 1) (b .base)
+
+    ends : drop baseWords (numbersOf b) ≡ b .lower ∷ (b .upper ∷ [])
+    ends = drop-at words (b .lower ∷ (b .upper ∷ [])) baseWords (words-count baseWords (b .base))
+
+    lower : getD (numbersOf b) baseWords 0 ≡ b .lower
+    lower = sym (getD-drop baseWords (numbersOf b) 0 0) ∙ ap (λ (l : List ℕ). getD l 0 0) ends
+
+    upper : getD (numbersOf b) (baseWords + 1) 0 ≡ b .upper
+    upper = sym (getD-drop baseWords (numbersOf b) 1 0) ∙ ap (λ (l : List ℕ). getD l 1 0) ends
+
+pub numbers-block : {x : List ℕ} → All Word x → length x ≡ blockSize → numbersOf (blockOf x) ≡ x
+numbers-block {x} g e = ap₂ _++_ (words-back (baseWords - 1) (all-take baseWords g) (length-take-le baseWords x (omega arith))) ends ∙ take-append-drop baseWords x
+  where
+    ends : getD x baseWords 0 ∷ (getD x (baseWords + 1) 0 ∷ []) ≡ drop baseWords x
+    ends =
+        let n = length-drop baseWords x in
+        (λ i. sym (getD-drop baseWords x 0 0) i ∷ (sym (getD-drop baseWords x 1 0) i ∷ []))
+        ∙ numbers-taken 2 (drop baseWords x) (omega arith) ∙ take-all 2 (drop baseWords x) (omega arith)
+
+-- ---- a shape
+
+sized : (s : List Block) → All (λ (x : List ℕ). length x ≡ blockSize) (map numbersOf s)
+sized [] = none
+sized (b ∷ s) = more (numbers-count b) (sized s)
+
+pub words-length : (s : List Block) → length (wordsOf s) ≡ length s * blockSize
+unfolding wordsOf
+words-length s = join-length blockSize (sized s) ∙ ap (λ (n : ℕ). n * blockSize) (length-map s numbersOf)
+
+pub words-append : (s t : List Block) → wordsOf (s ++ t) ≡ wordsOf s ++ wordsOf t
+unfolding wordsOf
+words-append s t = ap joinItems (map-join numbersOf s t) ∙ join-append (map numbersOf s) (map numbersOf t)
 
 pub shape-words : (s : List Block) → shapeOf (wordsOf s) ≡ s
 unfolding shapeOf wordsOf
-shape-words [] = refl
-shape-words (b ∷ s) = λ i. record { base = base-back (b .base) i; lower = b .lower; upper = b .upper } ∷ shape-words s i
-
-pub words-length : (s : List Block) → length (wordsOf s) ≡ length s * 4
-unfolding wordsOf
-words-length [] = refl
-words-length (b ∷ s) = let h = words-length s in omega arith
+shape-words s =
+    let n : blockCount (joinItems (map numbersOf s)) ≡ length (map numbersOf s) = let j = join-length blockSize (sized s) in omega arith in
+    ap (λ (k : ℕ). map blockOf (itemsOf blockSize k (joinItems (map numbersOf s)))) n ∙ ap (map blockOf) (items-back blockSize (sized s)) ∙ each s
+  where
+    each : (s : List Block) → map blockOf (map numbersOf s) ≡ s
+    each [] = refl
+    each (b ∷ s) = ap₂ _∷_ (block-numbers b) (each s)
 
 -- of whole blocks of 64-bit numbers
-low-word : (w v : ℕ) → w < 2 ^ 64 → baseOf (w ∷ (v ∷ [])) % 2 ^ 64 ≡ w
-unfolding baseOf
-low-word w v h = low (baseOf (v ∷ [])) 64 h
-
-high-word : (w v : ℕ) → w < 2 ^ 64 → baseOf (w ∷ (v ∷ [])) / 2 ^ 64 ≡ v
-unfolding baseOf
-high-word w v h = high (baseOf (v ∷ [])) 64 h ∙ one-word v
-
-pub words-shape : (xs : List ℕ) → length xs % 4 ≡ 0 → All (λ (x : ℕ). x < 2 ^ 64) xs → wordsOf (shapeOf xs) ≡ xs
+pub words-shape : (xs : List ℕ) → length xs % blockSize ≡ 0 → Numbers xs → wordsOf (shapeOf xs) ≡ xs
 unfolding shapeOf wordsOf
-words-shape [] e g = refl
-words-shape (a ∷ []) e g = absurd (let h : _≡_ {A = ℕ} 1 0 = e in omega arith)
-words-shape (a ∷ (b ∷ [])) e g = absurd (let h : _≡_ {A = ℕ} 2 0 = e in omega arith)
-words-shape (a ∷ (b ∷ (c ∷ []))) e g = absurd (let h : _≡_ {A = ℕ} 3 0 = e in omega arith)
-words-shape (a ∷ (b ∷ (c ∷ (d ∷ xs)))) e (more p (more q (more r (more t g)))) =
-    λ i. low-word a b p i ∷ (high-word a b p i ∷ (c ∷ (d ∷ words-shape xs (omega arith) g i)))
+words-shape xs e g =
+    ap joinItems (each (items-all blockSize (blockCount xs) (lit< tt) g) (items-sized blockSize (blockCount xs) xs))
+    ∙ join-back blockSize (blockCount xs) xs (omega arith)
+  where
+    each : {l : List (List ℕ)} → All (All Word) l → All (λ (x : List ℕ). length x ≡ blockSize) l → map numbersOf (map blockOf l) ≡ l
+    each none none = refl
+    each (more w g) (more e s) = ap₂ _∷_ (numbers-block w e) (each g s)

@@ -1,47 +1,54 @@
--- The refusals of a shape: what the check of its blocks says of the whole, and that one input has one answer. Assumes nothing.
-use mathlib.Core.Path.{_≡_, sym, _∙_}
+-- The refusals of a shape: what the check of its blocks says of the whole, and that one input has one answer. Assumes
+-- nothing.
+use mathlib.Core.Path.{_≡_}
 use mathlib.Core.List.{List}
-use Prim.Native.Nat.{ℕ, _≤_}
-use native.Mathlib.Omega.{arith}
-use Rattle.answers.specs.Told.{Told}
+use Prim.Native.Nat.{ℕ, _+_, _≤_}
+use lib.ListN.{length, getD}
+use Rattle.answers.specs.Told.{Told, tell}
+use Rattle.answers.specs.Turns.{here, later, inTurn, need}
+use Rattle.answers.proofs.Turns.{OneOf, EachOne, need-one, in-turn-one, then-checked, due-tells, need-tells, forbid-tells}
 use Rattle.answers.specs.declared.Checked.{Checked}
-use Rattle.answers.specs.declared.Checked.the-variants.{Sound as is-sound, Refused}
-use Rattle.shapes.specs.All.{All}
+use Rattle.plain.specs.All.{All}
 use Rattle.shapes.specs.Shape.{Block, Sound, noBlock, total}
-use Rattle.shapes.specs.Lent.{shapeOf, RightLength, FirstBlock, BlocksRefused, ShapeRefused, Accepted, BlocksChecked, ShapeChecked}
-use Rattle.shapes.specs.Lent.BlocksRefused.{wrong-block, too-long}
-use Rattle.shapes.specs.Lent.ShapeRefused.{wrong-length, wrong-blocks}
-use Rattle.shapes.proofs.All.{all-at}
-use Rattle.shapes.proofs.FirstBad.{first-bad-none, first-refused-one}
-use Rattle.shapes.proofs.Wrong.{block-one}
+use Rattle.shapes.specs.Wrong.{blockTurns, ofBlock, BlockRefused}
+use Rattle.shapes.specs.Lent.{shapeOf, RightLength, blocksTurns, BlocksRefused, shapeTurns, ShapeRefused, ofShape, Accepted, BlocksChecked, ShapeChecked}
+use Rattle.plain.proofs.All.{all-at}
+use Rattle.answers.proofs.FirstBad.{one-by-one}
+use Rattle.shapes.proofs.Wrong.{of-block}
 
 -- numbers of the right length are checked as their blocks are
 pub blocks-then : (n : ℕ) (xs : List ℕ) (r : Checked) → RightLength xs → BlocksChecked n (shapeOf xs) r → ShapeChecked n xs r
-blocks-then n xs is-sound h p = record { right = h; sound = p .0; short = p .1 }
-blocks-then n xs (Refused r) h p = wrong-blocks h p
+blocks-then n xs r h p = then-checked (need (RightLength xs) (tell 1 n 0)) (blocksTurns n (shapeOf xs)) r h (λ (g, l). record { right = h; sound = g; short = l }) p
 
 -- ---- one answer
 
--- blocks that are all sound have no first unsound one
-none-unsound : {n : ℕ} {s : List Block} {i : ℕ} {t : Told} → All Sound s → FirstBlock n s i t → ⊥
-none-unsound g f = first-bad-none (all-at noBlock g) (f .first)
+of-each : {n : ℕ} {s : List Block} → EachOne (blocksTurns n s)
+of-each {n} {s} = (one-by-one (length s) (λ j. ofBlock n (j + 1) (getD s j noBlock)) (λ j. of-block) (λ g. all-at noBlock g), (need-one, tt))
 
-pub blocks-one : {n : ℕ} {s : List Block} {t u : Told} → BlocksRefused n s t → BlocksRefused n s u → t ≡ u
-blocks-one (wrong-block i a) (wrong-block j b) = first-refused-one (λ k. block-one) a b
-blocks-one (wrong-block i a) (too-long g h q) = absurd (none-unsound g a)
-blocks-one (too-long g h p) (wrong-block j b) = absurd (none-unsound g b)
-blocks-one (too-long g h p) (too-long g′ h′ q) = p ∙ sym q
+pub of-blocks : {n : ℕ} {s : List Block} {Good : Type 0} → (Good → All Sound s × (total s ≤ 250)) → OneOf (inTurn Good (blocksTurns n s))
+of-blocks {n} {s} good = in-turn-one (blocksTurns n s) of-each (λ g. (good g .0, (good g .1, tt)))
 
-pub blocks-not : {n : ℕ} {s : List Block} {t : Told} → BlocksRefused n s t → All Sound s → total s ≤ 250 → ⊥
-blocks-not (wrong-block i a) g l = none-unsound g a
-blocks-not (too-long g h p) _ l = omega arith
+pub of-shape : {n : ℕ} {xs : List ℕ} → OneOf (ofShape n xs)
+of-shape {n} {xs} = in-turn-one (shapeTurns n xs) (need-one, of-each) (λ a. (a .right, (a .sound, (a .short, tt))))
 
 pub shape-one : {n : ℕ} {xs : List ℕ} {t u : Told} → ShapeRefused n xs t → ShapeRefused n xs u → t ≡ u
-shape-one (wrong-length a p) (wrong-length b q) = p ∙ sym q
-shape-one (wrong-length a p) (wrong-blocks h b) = absurd (a h)
-shape-one (wrong-blocks h b) (wrong-length a p) = absurd (a h)
-shape-one (wrong-blocks h a) (wrong-blocks g b) = blocks-one a b
+shape-one p q = of-shape .one p q
 
 pub shape-not : {n : ℕ} {xs : List ℕ} {t : Told} → ShapeRefused n xs t → Accepted xs → ⊥
-shape-not (wrong-length a p) h = a (h .right)
-shape-not (wrong-blocks r b) h = blocks-not b (h .sound) (h .short)
+shape-not p a = of-shape .not p a
+
+-- ---- what is told: it has whatever property the refusals of shape number n have
+
+pub block-tells : (Q : Told → Type 0) {n i : ℕ} {b : Block} {t : Told} → Q (tell 2 n i) → Q (tell 10 n i) → Q (tell 11 n i) → BlockRefused n i b t → Q t
+block-tells Q {n} {i} {b} {t} two ten eleven r =
+    due-tells Q (blockTurns n i b) (forbid-tells Q two, (forbid-tells Q ten, (forbid-tells Q eleven, tt))) t r
+
+pub blocks-tells : (Q : Told → Type 0) {n : ℕ} {s : List Block} {t : Told} → ((i : ℕ) → Q (tell 2 n i) × Q (tell 10 n i) × Q (tell 11 n i)) → Q (tell 3 n 0)
+    → BlocksRefused n s t → Q t
+blocks-tells Q {n} {s} {t} block three r =
+    due-tells Q (blocksTurns n s) ((λ u p. let q = block (p .1 .first .before + 1) in block-tells Q (q .0) (q .1) (q .2) (p .1 .refused)), (need-tells Q three, tt)) t r
+
+pub shape-tells : (Q : Told → Type 0) {n : ℕ} {xs : List ℕ} {t : Told} → Q (tell 1 n 0) → ((i : ℕ) → Q (tell 2 n i) × Q (tell 10 n i) × Q (tell 11 n i)) → Q (tell 3 n 0)
+    → ShapeRefused n xs t → Q t
+shape-tells Q one block three (here p) = need-tells Q one _ p
+shape-tells Q one block three (later r p) = blocks-tells Q block three p

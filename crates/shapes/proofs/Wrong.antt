@@ -1,16 +1,18 @@
--- What can be wrong with a block: the three together are exactly "not sound", and of a block that is not sound exactly one refusal is due. Assumes nothing.
-use mathlib.Core.Path.{_≡_, refl, sym, subst, _∙_}
+-- What can be wrong with a block: the three together are exactly "not sound", and of a block that is not sound exactly
+-- one refusal is due. Assumes nothing.
+use mathlib.Core.Path.{_≡_, subst}
 use mathlib.Core.Logic.{_⊎_, inl, inr, ⊎-elim}
 use Prim.Native.Nat.{ℕ, _≤_}
 use native.Mathlib.Omega.{arith}
 use Rattle.answers.specs.Told.{Told, tell}
+use Rattle.answers.specs.Turns.{here, later}
+use Rattle.answers.proofs.Turns.{OneOf, forbid-one, in-turn-one, because}
 use Rattle.bases.specs.Base.{Empty}
 use Rattle.bases.proofs.Laws.{none-in-zero, empty-zero}
-use Rattle.bases.proofs.Plain.{lt-or-le}
+use Rattle.plain.proofs.Plain.{lt-or-le}
 use Rattle.shapes.specs.Shape.{Block, Sound}
-use Rattle.shapes.specs.Wrong.{Crossed, TooLarge, Disagree, BlockRefused}
+use Rattle.shapes.specs.Wrong.{Crossed, TooLarge, Disagree, blockTurns, ofBlock, BlockRefused}
 use Rattle.shapes.specs.Wrong.Disagree.{empty, filled}
-use Rattle.shapes.specs.Wrong.BlockRefused.{crossed, too-large, disagree}
 
 -- ---- nothing wrong, and something
 
@@ -60,31 +62,21 @@ last-wrong b u c l = ⊎-elim (λ d. d) (λ d. absurd (u (none-wrong b (λ h. om
 
 -- some refusal is due of a block that is not sound
 pub block-due : (n i : ℕ) (b : Block) → (Sound b → ⊥) → (t : Told) × BlockRefused n i b t
-block-due n i b u = ⊎-elim (λ h. (tell 2 n i, crossed h refl)) next (lt-or-le (b .upper) (b .lower))
+block-due n i b u = ⊎-elim (λ h. (tell 2 n i, here (because h))) next (lt-or-le (b .upper) (b .lower))
   where
     next : b .lower ≤ b .upper → (t : Told) × BlockRefused n i b t
     next c = ⊎-elim
-        (λ h. (tell 10 n i, too-large (λ x. omega arith) h refl))
-        (λ l. (tell 11 n i, disagree (λ x. omega arith) (λ x. omega arith) (last-wrong b u c l) refl))
+        (λ h. (tell 10 n i, later (λ x. omega arith) (here (because h))))
+        (λ l. (tell 11 n i, later (λ x. omega arith) (later (λ x. omega arith) (here (because (last-wrong b u c l))))))
         (lt-or-le 250 (b .upper))
 
--- and no two
-pub block-one : {n i : ℕ} {b : Block} {t u : Told} → BlockRefused n i b t → BlockRefused n i b u → t ≡ u
-block-one (crossed h p) (crossed g q) = p ∙ sym q
-block-one (crossed h p) (too-large c g q) = absurd (c h)
-block-one (crossed h p) (disagree c l g q) = absurd (c h)
-block-one (too-large c h p) (crossed g q) = absurd (c g)
-block-one (too-large c h p) (too-large d g q) = p ∙ sym q
-block-one (too-large c h p) (disagree d l g q) = absurd (l h)
-block-one (disagree c l h p) (crossed g q) = absurd (c g)
-block-one (disagree c l h p) (too-large d g q) = absurd (l g)
-block-one (disagree c l h p) (disagree d m g q) = p ∙ sym q
+-- and no two; of a sound one none is
+pub of-block : {n i : ℕ} {b : Block} → OneOf (ofBlock n i b)
+of-block {n} {i} {b} = in-turn-one (blockTurns n i b) (forbid-one, (forbid-one, (forbid-one, tt)))
+    (λ s. ((λ h. crossed-unsound b h s), ((λ h. large-unsound b h s), ((λ h. disagree-unsound b h s), tt))))
 
--- of a sound one none is
 pub block-not : {n i : ℕ} {b : Block} {t : Told} → BlockRefused n i b t → Sound b → ⊥
-block-not (crossed h p) = crossed-unsound _ h
-block-not (too-large c h p) = large-unsound _ h
-block-not (disagree c l h p) = disagree-unsound _ h
+block-not r s = of-block .not r s
 
 -- ---- the three together are "not sound"
 
@@ -92,9 +84,9 @@ pub unsound-wrong : (b : Block) → (Sound b → ⊥) → Crossed b ⊎ (TooLarg
 unsound-wrong b u = why (block-due 1 1 b u .1)
   where
     why : {t : Told} → BlockRefused 1 1 b t → Crossed b ⊎ (TooLarge b ⊎ Disagree b)
-    why (crossed h p) = inl h
-    why (too-large c h p) = inr (inl h)
-    why (disagree c l h p) = inr (inr h)
+    why (here h) = inl (h .so)
+    why (later c (here h)) = inr (inl (h .so))
+    why (later c (later l (here h))) = inr (inr (h .so))
 
 pub wrong-unsound : (b : Block) → Crossed b ⊎ (TooLarge b ⊎ Disagree b) → Sound b → ⊥
 wrong-unsound b w s = ⊎-elim (λ h. crossed-unsound b h s) (λ v. ⊎-elim (λ h. large-unsound b h s) (λ h. disagree-unsound b h s) v) w

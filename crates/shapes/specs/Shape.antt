@@ -1,10 +1,11 @@
 -- Document 01, "Shapes and fillings", in the papers' terms (000 and 003: dashed strings, gamma).
 use mathlib.Core.Path.{_≡_}
 use mathlib.Core.List.{List, [], _∷_, _++_}
-use Prim.Native.Nat.{ℕ, _+_, _/_, _^_, _≤_, _<_}
+use Prim.Native.Nat.{ℕ, _+_, _*_, _^_, _≤_, _<_}
 use lib.ListN.{length}
-use Rattle.bases.specs.Base.{Holds, Empty, codes}
-use Rattle.shapes.specs.All.{All}
+use Rattle.plain.specs.All.{All}
+use Rattle.plain.specs.Items.{itemCount}
+use Rattle.bases.specs.Base.{Holds, Empty, baseWords, codes}
 
 -- A character is its code, a text a list of characters, a shape a list of blocks.
 -- A block has a base, a lower and an upper count.
@@ -30,10 +31,17 @@ Small b = b .base < 2 ^ codes
 
 -- A block is so many lent numbers: the words of its base, lower and upper. So many blocks are some numbers.
 abbrev pub blockSize : ℕ
-blockSize = 4
+blockSize = baseWords + 2
 
 abbrev pub blockCount : List ℕ → ℕ
-blockCount xs = length xs / blockSize
+blockCount xs = itemCount blockSize xs
+
+-- A shape is 1 to 32 blocks; a line of two shapes has room for twice as many.
+abbrev pub mostBlocks : ℕ
+mostBlocks = 32
+
+abbrev pub lineBlocks : ℕ
+lineBlocks = 2 * mostBlocks
 
 -- The uppers of a shape, added.
 unfoldable pub total : List Block → ℕ

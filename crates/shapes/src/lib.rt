@@ -5,8 +5,11 @@ ghost use Prim.Native.Nat.{_/_, _≤_, _<_};
 ghost use Rattle.shapes.specs.Shape.{Small, total, blockCount};
 ghost use Rattle.shapes.specs.Lent.{meant, blockAt, shapeOf, Put};
 
-// The numbers of a block.
+// The numbers of a block: two words of its base, lower and upper.
 pub const SIZE: usize = 4;
+
+// The blocks that a shape may have.
+pub const MOST: usize = 32;
 
 // A block as the code carries it: a base, a lower and an upper.
 pub struct Block {

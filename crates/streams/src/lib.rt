@@ -1,7 +1,8 @@
-// The first and the last step of a program: its standard input read up to a room, its report written to the standard output.
+// The first and the last step of a program: its standard input read up to a room, its report written to the standard
+// output.
 //
-// No contract can say which bytes a read brings or where a write takes them; what was read and what is handed on to be written is
-// in the contracts of those that call these functions.
+// No contract can say which bytes a read brings or where a write takes them; what was read and what is handed on to be
+// written is in the contracts of those that call these functions.
 ghost use Prim.Native.Nat.{_≤_};
 ghost use lib.ListN.{length};
 ghost use Rattle.streams.specs.Within.{ReadWithin, ReadMore};

@@ -1,4 +1,5 @@
--- What the loops of push and stretch keep: the looks made so far, and what the rest of the loop comes to. Assumes nothing.
+-- What the loops of push and stretch keep: the looks made so far, and what the rest of the loop comes to. Assumes
+-- nothing.
 use mathlib.Core.Path.{_≡_, sym, ap, _∙_}
 use mathlib.Core.List.{List, [], _∷_, reverse}
 use Prim.Native.Nat.{ℕ, suc, _+_, _-_, _≤_, _<_}

@@ -2,22 +2,22 @@
 use mathlib.Core.Path.{_≡_, sym, ap, _∙_, subst₂}
 use mathlib.Core.List.{List}
 use Prim.Native.Nat.{ℕ, _*_, _≤_}
-use native.Mathlib.Omega.{arith}
 use lib.ListN.{length}
 use Rattle.answers.specs.Told.{Told}
+use Rattle.answers.specs.Turns.{inTurn}
 use Rattle.answers.specs.declared.Swept.{Swept}
 use Rattle.answers.specs.declared.Swept.the-variants.{Places, Cannot, Refused}
 use Rattle.answers.proofs.Told.{told-one}
+use Rattle.answers.proofs.Turns.{OneOf, need-one, in-turn-one}
 use Rattle.shapes.specs.Lent.{shapeOf}
 use Rattle.pairs.specs.Pair.{PairAccepted}
-use Rattle.pairs.proofs.Pair.{pair-one, pair-not}
+use Rattle.pairs.proofs.Pair.{of-pair}
 use Rattle.sweep_steps.specs.Steps.{sweepOf}
 use Rattle.sweep_passes.specs.Read.{sweptOf, outputOf}
 use Rattle.sweeps.specs.Meaning.{Means}
 use Rattle.sweeps.proofs.Meaning.{means}
 use Rattle.sweeps.proofs.Whole.{not-refused}
-use Rattle.sweep_calls.specs.Sweep.{SweepRefused, SweepDone, SweepPromise}
-use Rattle.sweep_calls.specs.Sweep.SweepRefused.{shapes, output}
+use Rattle.sweep_calls.specs.Sweep.{sweepTurns, SweepRefused, SweepDone, SweepPromise}
 
 module _ (xs ys out : List ℕ) where
   done : (out′ : List ℕ) (r : Swept) → PairAccepted xs ys → 2 * length (shapeOf xs) ≤ length out → r ≡ sweptOf (sweepOf (shapeOf xs) (shapeOf ys))
@@ -37,15 +37,14 @@ module _ (xs ys out : List ℕ) where
   promised out′ (Cannot k) a h e o = done out′ (Cannot k) a h e o
   promised out′ (Refused r) a h e o = absurd (not-refused (sweepOf (shapeOf xs) (shapeOf ys)) e)
 
+  of-sweep : OneOf (inTurn (PairAccepted xs ys × (2 * length (shapeOf xs) ≤ length out)) (sweepTurns xs ys (length out)))
+  of-sweep = in-turn-one (sweepTurns xs ys (length out)) (of-pair, (need-one, tt)) (λ (ok, r). (ok, (r, tt)))
+
   pub one-refusal : {t u : Told} → SweepRefused xs ys (length out) t → SweepRefused xs ys (length out) u → t ≡ u
-  one-refusal (shapes p) (shapes q) = pair-one p q
-  one-refusal (shapes p) (output a h e) = absurd (pair-not p a)
-  one-refusal (output a h e) (shapes q) = absurd (pair-not q a)
-  one-refusal (output a h e) (output a′ h′ e′) = e ∙ sym e′
+  one-refusal p q = of-sweep .one p q
 
   pub not-due : {t : Told} → SweepRefused xs ys (length out) t → PairAccepted xs ys → 2 * length (shapeOf xs) ≤ length out → ⊥
-  not-due (shapes p) a h = pair-not p a
-  not-due (output _ g e) a h = omega arith
+  not-due p a h = of-sweep .not p (a, h)
 
   refused-not : {t : Told} {out′ : List ℕ} {r : Swept} → SweepRefused xs ys (length out) t → SweepDone xs ys out out′ r → ⊥
   refused-not p d = not-due p (d .accepted) (d .room)

@@ -8,7 +8,7 @@ ghost use mathlib.Core.List.{List, _++_};
 ghost use Prim.Native.Nat.{ℕ, _*_, _/_, _≤_};
 ghost use lib.ListN.{length, drop};
 ghost use Rattle.shapes.specs.Lent.{shapeOf};
-ghost use Rattle.shapes.specs.Shape.{blockCount};
+ghost use Rattle.shapes.specs.Shape.{blockCount, mostBlocks};
 ghost use Rattle.sweep_steps.specs.Places.{at};
 ghost use Rattle.sweep_steps.specs.Steps.{stretches, pushes, places, numbers};
 ghost use Rattle.sweep_steps.specs.declared.Place.{Place};
@@ -22,7 +22,7 @@ pub enum Passed {
 
 // Stretch x's blocks, the last first, in the reversed y; keep each one's place in y.
 pub fn stretch_all(x: &[u64], y: &[u64], kept: &mut [u64]) -> Stretched
-    requires { ⌜ (blockCount (now x) ≤ 32) × (blockCount (now y) ≤ 32) × (2 * (blockCount (now x)) ≤ length (now kept)) ⌝ }
+    requires { ⌜ (blockCount (now x) ≤ mostBlocks) × (blockCount (now y) ≤ mostBlocks) × (2 * (blockCount (now x)) ≤ length (now kept)) ⌝ }
     ensures { λ r. ⌜ (r .looks ≡ stretches (shapeOf (now (x .entry))) (shapeOf (now (y .entry))) .looks)
         × (heldIn (shapeOf (now (x .entry))) (now (kept .exit)) ≡ stretches (shapeOf (now (x .entry))) (shapeOf (now (y .entry))) .held) ⌝ }
 {
@@ -50,7 +50,7 @@ pub fn stretch_all(x: &[u64], y: &[u64], kept: &mut [u64]) -> Stretched
 
 // Push x's blocks in y, each from the later of its kept place and the end before it; keep each one's start instead.
 pub fn push_all(x: &[u64], y: &[u64], kept: &mut [u64]) -> Passed
-    requires { ⌜ (blockCount (now x) ≤ 32) × (blockCount (now y) ≤ 32) × (2 * (blockCount (now x)) ≤ length (now kept)) ⌝ }
+    requires { ⌜ (blockCount (now x) ≤ mostBlocks) × (blockCount (now y) ≤ mostBlocks) × (2 * (blockCount (now x)) ≤ length (now kept)) ⌝ }
     ensures answer { λ r. ⌜ r ≡ passed (pushes (shapeOf (now (y .entry))) (heldIn (shapeOf (now (x .entry))) (now (kept .entry))) (at 1 0)) ⌝ }
     ensures starts { λ r. ⌜ ((qs : List Place) (l : ℕ) → pushes (shapeOf (now (y .entry))) (heldIn (shapeOf (now (x .entry))) (now (kept .entry))) (at 1 0) ≡ places qs l
         → now (kept .exit) ≡ numbers qs ++ drop (2 * (blockCount (now (x .entry)))) (now (kept .entry))) ⌝ }

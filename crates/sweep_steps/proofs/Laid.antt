@@ -1,4 +1,5 @@
--- Characters laid out along the blocks of a shape by the lengths of their runs, and where a place then stands. Assumes nothing.
+-- Characters laid out along the blocks of a shape by the lengths of their runs, and where a place then stands. Assumes
+-- nothing.
 use mathlib.Core.Path.{_≡_, refl, ap, _∙_}
 use mathlib.Core.Bool.{Bool, true, false}
 use mathlib.Core.List.{List, [], _∷_}
@@ -37,7 +38,8 @@ laid-lower (next l u h r) zero = l
 laid-lower (next l u h r) (suc j) = laid-lower r j
 
 -- How many characters stand before the place q, where the runs' blocks count from i and start behind the first p.
--- An offset past a run counts as the run's end, so q is at or before the latest name of a boundary exactly if it stands at or before it.
+-- An offset past a run counts as the run's end, so q is at or before the latest name of a boundary exactly if it stands
+-- at or before it.
 unfoldable pub stand : ℕ → ℕ → List ℕ → Place → ℕ
 stand i p [] q = p + (numberOf q - i) + offsetOf q
 stand i p (n ∷ ns) q = pick (leb (numberOf q) i) (p + min (offsetOf q) n) (stand (i + 1) (p + n) ns q)

@@ -7,7 +7,7 @@ use native.Mathlib.Omega.{arith}
 use lib.Dec.{eqb, ltb}
 use lib.ListN.{length, drop, length-drop, length-reverse}
 use borrow.Author.Tests.{ltb-false, eqb-true}
-use Rattle.shapes.specs.All.{All, none, more}
+use Rattle.plain.specs.All.{All, none, more}
 use Rattle.shapes.specs.Shape.{Block}
 use Rattle.sweep_steps.specs.Share.{pick}
 use Rattle.sweep_steps.specs.Places.{at, numberOf, offsetOf, isStart, before, later, forward, nth}
@@ -19,7 +19,8 @@ use Rattle.sweep_steps.specs.declared.PushLook.{PushLook}
 use Rattle.sweep_steps.specs.declared.StretchLook.{StretchLook}
 use Rattle.sweep_steps.proofs.Views.{by-zero}
 
--- a walk from block i along some blocks: where it ends, and with how many looks; each block passed is looked at, and at most one more
+-- a walk from block i along some blocks: where it ends, and with how many looks; each block passed is looked at, and at
+-- most one more
 pub record Walked (i len : ℕ) (end : Place) (looks : ℕ) : Type 0 where
   pub onward : i ≤ numberOf end
   pub upto : numberOf end ≤ i + len

@@ -1,4 +1,5 @@
--- Push is never ahead of a run: from a place at or before the run's start, it finds a start and an end at or before the run's. Assumes nothing.
+-- Push is never ahead of a run: from a place at or before the run's start, it finds a start and an end at or before the
+-- run's. Assumes nothing.
 use mathlib.Core.Path.{_≡_, refl, sym, _∙_, subst}
 use mathlib.Core.List.{List, _∷_}
 use mathlib.Core.Logic.{_⊎_, inl, inr, ⊎-elim}
@@ -6,7 +7,7 @@ use Prim.Native.Nat.{ℕ, _+_, _-_, _≤_, _<_, min}
 use native.Mathlib.Omega.{arith}
 use lib.ListN.{length, drop}
 use Rattle.bases.specs.Base.{Meets}
-use Rattle.bases.proofs.Plain.{lt-or-le}
+use Rattle.plain.proofs.Plain.{lt-or-le}
 use Rattle.shapes.specs.Shape.{Block}
 use Rattle.sweep_steps.specs.Places.{at, numberOf, offsetOf}
 use Rattle.sweep_steps.specs.Steps.{pushLook, pushOn, pushLooked, pushing, push}
@@ -32,8 +33,8 @@ pub record Caught (p l i q : ℕ) (ns : List ℕ) (start : Place) (r : Pushed) :
 pub clash : {c : ℕ → ℕ} {a b p e q f : ℕ} → Spans c a p e → Spans c b q f → (Meets a b → ⊥) → (v : ℕ) → p ≤ v → v < e → q ≤ v → v < f → ⊥
 clash {c} hs ht apart v x y z w = apart (record { shared = c v; first = hs .held v x y; second = ht .held v z w })
 
--- a block that shares nothing with s, with its run of n characters behind the first q: what is left of s's run is past it,
--- and all of it is if the block's run must have had more than o
+-- a block that shares nothing with s, with its run of n characters behind the first q: what is left of s's run is past
+-- it, and all of it is if the block's run must have had more than o
 module _ (c : ℕ → ℕ) (s t : Block) (p e q n o k : ℕ) (run : LongRun c s p e) (other : Spans c (t .base) q (q + n)) (apart : Meets (s .base) (t .base) → ⊥)
     (pos : 0 < k) (most : k ≤ s .lower) (here : q + min o n ≤ p + (s .lower - k)) where
   skipped : q + n ≤ p + (s .lower - k)

@@ -7,7 +7,7 @@ use native.Mathlib.Omega.{arith}
 use lib.Dec.{eqb, lit<}
 use borrow.Author.Tests.{eqb-true, eqb-false}
 use Rattle.bases.specs.Base.{Holds, Empty, Meets}
-use Rattle.bases.specs.Tells.{Tells}
+use Rattle.plain.specs.Tells.{Tells}
 use Rattle.bases.proofs.Laws.{halved, none-in-zero}
 use Rattle.sweep_steps.specs.Share.{sharesWithin, shares}
 

@@ -1,4 +1,5 @@
--- Against one text laid out along both shapes, the sweep finds places, each standing at or before its block's run. Assumes nothing.
+-- Against one text laid out along both shapes, the sweep finds places, each standing at or before its block's run.
+-- Assumes nothing.
 use mathlib.Core.Path.{_≡_, refl}
 use mathlib.Core.Bool.{true}
 use mathlib.Core.List.{List, [], _∷_, reverse}

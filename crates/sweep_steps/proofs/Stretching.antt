@@ -1,4 +1,5 @@
--- Stretch is never behind a run: from a place at or after the run's start, it ends at or after the run's end. Assumes nothing.
+-- Stretch is never behind a run: from a place at or after the run's start, it ends at or after the run's end. Assumes
+-- nothing.
 use mathlib.Core.Path.{_≡_, refl}
 use mathlib.Core.List.{List, [], _∷_}
 use mathlib.Core.Logic.{⊎-elim}
@@ -6,7 +7,7 @@ use Prim.Native.Nat.{ℕ, suc, _+_, _-_, _≤_, _<_, min}
 use native.Mathlib.Omega.{arith}
 use lib.ListN.{length, drop, getD, length-drop}
 use lib.Seq.{getD-drop}
-use Rattle.bases.proofs.Plain.{lt-or-le}
+use Rattle.plain.proofs.Plain.{lt-or-le}
 use Rattle.shapes.specs.Shape.{Block, noBlock}
 use Rattle.sweep_steps.specs.Places.{at, numberOf, offsetOf}
 use Rattle.sweep_steps.specs.Steps.{stretchLook, stretchOn, stretchLooked, stretching, stretch}

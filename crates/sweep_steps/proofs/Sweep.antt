@@ -8,7 +8,7 @@ use lib.Dec.{eqb}
 use lib.ListN.{length, getD, take, length-append, List·getD-append}
 use lib.Seq.{getD-append-add}
 use Rattle.bases.specs.Base.{Holds}
-use Rattle.shapes.specs.All.{All, none, more}
+use Rattle.plain.specs.All.{All, none, more}
 use Rattle.shapes.specs.Shape.{Block, Filling, done, fill, textOf}
 use Rattle.sweep_steps.specs.Share.{pick}
 use Rattle.sweep_steps.specs.Places.{at, isStart, later}
@@ -91,7 +91,8 @@ part-sum (n ∷ ns) (suc i) = let h = part-sum ns i in omega arith
 pub cannot-none : (x y : List Block) (k : ℕ) → sweepOf x y ≡ cannot k → (f g : List (List ℕ)) → Filling x f → Filling y g → textOf f ≡ textOf g → ⊥
 cannot-none x y k e f g fx gy same = never-cannot k (answer x y f g fx gy same) e
 
--- For each pair of fillings with one text and each block of X, the latest name of the boundary where that block's run starts is never before the reported place.
+-- For each pair of fillings with one text and each block of X, the latest name of the boundary where that block's run
+-- starts is never before the reported place.
 pub places-not-late : (x y : List Block) (qs : List Place) (k : ℕ) → sweepOf x y ≡ places qs k → (f g : List (List ℕ)) → Filling x f → Filling y g → textOf f ≡ textOf g
     → (i : ℕ) → i < length x → (q : Place) → Latest g (startOf f i) q → AtOrBefore (getD qs i (at 1 0)) q
 places-not-late x y qs k e f g fx gy same i h q l =

@@ -1,4 +1,5 @@
--- The reversed shape: the same characters laid out from the end, and a place of it as one of the shape as entered. Assumes nothing.
+-- The reversed shape: the same characters laid out from the end, and a place of it as one of the shape as entered.
+-- Assumes nothing.
 use mathlib.Core.Path.{_≡_, refl, ap, _∙_, subst}
 use mathlib.Core.Bool.{true}
 use mathlib.Core.List.{List, [], _∷_, _++_, reverse, reverseAux, reverse-append, reverse-cons, append-assoc}

@@ -7,7 +7,8 @@ use Rattle.shapes.specs.Shape.{textOf}
 use Rattle.sweep_steps.specs.Places.{numberOf, offsetOf}
 use Rattle.sweep_steps.specs.declared.Place.{Place}
 
--- A text's character index, kept apart from a block's number and from an offset: the boundary behind so many characters.
+-- A text's character index, kept apart from a block's number and from an offset: the boundary behind so many
+-- characters.
 pub record Boundary : Type 0 where
   pub characters : ℕ
 
@@ -20,7 +21,8 @@ pub data AtOrBefore (p q : Place) : Type 0 where
   earlier-block : numberOf p < numberOf q → AtOrBefore p q
   same-block : numberOf p ≡ numberOf q → offsetOf p ≤ offsetOf q → AtOrBefore p q
 
--- A place that names the boundary b, under the filling g: within a block's run, from its start to its end, or past the end.
+-- A place that names the boundary b, under the filling g: within a block's run, from its start to its end, or past the
+-- end.
 pub data Name (g : List (List ℕ)) (b : Boundary) (q : Place) : Type 0 where
   within : (j : ℕ) → j < length g → numberOf q ≡ j + 1 → offsetOf q ≤ length (getD g j []) → b .characters ≡ startOf g j .characters + offsetOf q → Name g b q
   past : numberOf q ≡ length g + 1 → offsetOf q ≡ 0 → b .characters ≡ length (textOf g) → Name g b q

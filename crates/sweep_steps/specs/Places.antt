@@ -1,4 +1,5 @@
--- Document 01, "The quick sweep": places, their order, and a place of the reversed shape as one of the shape as entered.
+-- Document 01, "The quick sweep": places, their order, and a place of the reversed shape as one of the shape as
+-- entered.
 use mathlib.Core.Bool.{Bool, false}
 use mathlib.Core.List.{List}
 use Prim.Native.Nat.{ℕ, _+_, _-_}
@@ -40,8 +41,8 @@ later p q = pick (before p q) q p
 abbrev pub nth : List Block → ℕ → Block
 nth y i = getD y (i - 1) noBlock
 
--- A place p of the reversed shape as a place of the shape y as entered: block j of the reversed shape is block m + 1 - j of y, and
--- k back from its end is l' - k forward. Past the end of the reversed shape is (1, 0).
+-- A place p of the reversed shape as a place of the shape y as entered: block j of the reversed shape is block m + 1 -
+-- j of y, and k back from its end is l' - k forward. Past the end of the reversed shape is (1, 0).
 unfoldable pub forward : List Block → Place → Place
 forward y p =
     let j = length y + 1 - numberOf p in

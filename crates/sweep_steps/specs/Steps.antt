@@ -1,5 +1,6 @@
 -- Document 01, "The quick sweep": push, stretch and the places of X in Y, step by step, with the looks counted.
--- A loop goes along the blocks of T still ahead, from the place (i, o) reached; a turn of it looks at the first of them.
+-- A loop goes along the blocks of T still ahead, from the place (i, o) reached; a turn of it looks at the first of
+-- them.
 use mathlib.Core.List.{List, [], _∷_, reverse}
 use Prim.Native.Nat.{ℕ, _+_, _-_}
 use lib.Dec.{eqb, ltb, leb}
@@ -78,7 +79,8 @@ pub record Held : Type 0 where
   pub block : Block
   pub place : Place
 
--- the blocks of X from some one on, stretched: the end reached, in the reversed Y, each block with its place, and the looks made
+-- the blocks of X from some one on, stretched: the end reached, in the reversed Y, each block with its place, and the
+-- looks made
 pub record Behind : Type 0 where
   pub reached : Place
   pub held : List Held
@@ -117,7 +119,8 @@ looked k (cannot l) = cannot (k + l)
 abbrev pub pushNext : Pushed → Found → Found
 pushNext r rest = pick (eqb (r .left) 0) (found (r .start) (r .looks) rest) (cannot (r .looks))
 
--- Push from the first block, each from the later of its stretched place and the previous end. The start is its reported place.
+-- Push from the first block, each from the later of its stretched place and the previous end. The start is its reported
+-- place.
 unfoldable pub pushes : List Block → List Held → Place → Found
 pushes y [] end = places [] 0
 pushes y (h ∷ hs) end = let r = push (h .block) y (later (h .place) end) in pushNext r (pushes y hs (r .end))

@@ -1,4 +1,5 @@
-// The quick sweep's places and what push and stretch come to. A block's number and an offset are kept apart by their types.
+// The quick sweep's places and what push and stretch come to. A block's number and an offset are kept apart by their
+// types.
 
 // A block's number, from 1.
 pub struct BlockNumber(pub u64);
@@ -12,8 +13,8 @@ pub struct Place {
     pub offset: Offset,
 }
 
-// What push does after a look at a block: end at this offset in it, restart behind it with the full lower again, or go on behind it
-// with this k.
+// What push does after a look at a block: end at this offset in it, restart behind it with the full lower again, or go
+// on behind it with this k.
 pub enum PushLook {
     Ends(Offset),
     Restarts,

@@ -12,8 +12,8 @@ use Rattle.sweep_steps.specs.declared.Place.{Place}
 pub record Means (x y : List Block) (r : Swept) (out : List ℕ) : Type 0 where
   -- cannot only where no text fits both
   pub none : (k : ℕ) → r ≡ Swept.Cannot k → (t : List ℕ) → Fits x t → Fits y t → ⊥
-  -- for each pair of fillings with one text and each block of X, the latest name of the boundary where that block's run starts is never
-  -- before the place in the output
+  -- for each pair of fillings with one text and each block of X, the latest name of the boundary where that block's run
+  -- starts is never before the place in the output
   pub not-late : (k : ℕ) → r ≡ Swept.Places k → (f g : List (List ℕ)) → Filling x f → Filling y g → textOf f ≡ textOf g
       → (i : ℕ) → i < length x → (q : Place) → Latest g (startOf f i) q → AtOrBefore (at (getD out (2 * i) 0) (getD out (2 * i + 1) 0)) q
   -- at most 2 (n + m) looks

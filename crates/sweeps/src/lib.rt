@@ -23,7 +23,8 @@ fn copy(from: &[u64], to: &mut [u64], n: usize)
     }
 }
 
-// Both passes, over 64 numbers lent for the places, two for each block of x, which are there afterwards where there are places; of two accepted shapes.
+// Both passes, over 64 numbers lent for the places, two for each block of x, which are there afterwards where there are
+// places; of two accepted shapes.
 pub fn sweep_kept(x: &[u64], y: &[u64], kept: &mut [u64]) -> Swept
     requires { ⌜ RightLength (now x) × RightLength (now y) × (64 ≤ length (now kept)) ⌝ }
     ensures answer { λ r. ⌜ r ≡ sweptOf (sweepOf (shapeOf (now (x .entry))) (shapeOf (now (y .entry)))) ⌝ }

@@ -1,11 +1,11 @@
-// Runs the cases of the standard input through the library, one to a line, and writes a line for each. The second program
-// makes the input and, by other methods, the output that is wanted.
+// Runs the cases of the standard input through the library, one to a line, and writes a line for each. The second
+// program makes the input and, by other methods, the output that is wanted.
 //
 //     C w w ..         sound | refused number text place
 //     F text w w ..    fits | unfit | refused number text place
 //     O text text      the earlier text
-//     L n w w ..       text length output | refused number text place output, for the least text into an output of n bytes
-//     G n w w ..       the same with the greatest text
+//     L n w w ..       text length output | refused number text place output, for the least text into an output of n
+// bytes     G n w w ..       the same with the greatest text
 //
 // A number and a word of a shape are hex, a text is its bytes as hex pairs and `-` if it is empty.
 mod show;

@@ -4,9 +4,9 @@
 //     B k c w .. b w .. r w ..    stable applications blocks work z e | none applications blocks work z e
 //                                 | refused number text place blocks work z e
 //
-// A work buffer of k bytes, c block counts, b numbers of blocks and r numbers of rules. The numbers of a line are hex, and
-// so are those of the blocks, all of which are shown as they are after the call; z and e count the bytes 0 that the work
-// buffer begins with and the untouched ones at its end.
+// A work buffer of k bytes, c block counts, b numbers of blocks and r numbers of rules. The numbers of a line are hex,
+// and so are those of the blocks, all of which are shown as they are after the call; z and e count the bytes 0 that the
+// work buffer begins with and the untouched ones at its end.
 use answers::Ran;
 use test_lines::fields::copy_numbers;
 use test_lines::fields::first_list;

@@ -1,12 +1,13 @@
-// Runs the cases of the standard input through the call for the earliest common text, one to a line, and writes a line for
-// each. The second program makes the input and, by other methods, the output that is wanted.
+// Runs the cases of the standard input through the call for the earliest common text, one to a line, and writes a line
+// for each. The second program makes the input and, by other methods, the output that is wanted.
 //
 //     C k r n w .. m w ..    text length text rest e work z e | none rest e work z e
 //                            | refused number text place rest e work z e
 //
-// X of n numbers and Y of m numbers, with a work buffer of k bytes and an output of r bytes. The numbers of a line are hex. The
-// text is shown as hex pairs, `-` if it is empty, and the untouched bytes at the output's end are counted, which are all of
-// them where there is no text; z and e count the bytes 0 that the work buffer begins with and the untouched ones at its end.
+// X of n numbers and Y of m numbers, with a work buffer of k bytes and an output of r bytes. The numbers of a line are
+// hex. The text is shown as hex pairs, `-` if it is empty, and the untouched bytes at the output's end are counted,
+// which are all of them where there is no text; z and e count the bytes 0 that the work buffer begins with and the
+// untouched ones at its end.
 use answers::Shown;
 use test_lines::fields::NUMBERS;
 use test_lines::fields::first_list;

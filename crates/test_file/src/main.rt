@@ -1,10 +1,10 @@
-// Runs the book files of the standard input to their reports, one to a line, and writes a line for each. The second program
-// makes the input and the output that is wanted.
+// Runs the book files of the standard input to their reports, one to a line, and writes a line for each. The second
+// program makes the input and the output that is wanted.
 //
 //     F k file    report length text rest e | refused number text place rest e
 //
-// A report of k bytes, k in hex, and the bytes of a file as hex pairs, `-` if it is empty. The report is shown with `/` for
-// each newline; e counts the untouched bytes at its end, all of them where the file is refused.
+// A report of k bytes, k in hex, and the bytes of a file as hex pairs, `-` if it is empty. The report is shown with `/`
+// for each newline; e counts the untouched bytes at its end, all of them where the file is refused.
 use answers::Written;
 use test_lines::fields::find;
 use test_lines::fields::first_field;

@@ -1,5 +1,5 @@
-// Runs the cases of the standard input through the call that seeks a mark, one to a line, and writes a line for each. The second
-// program makes the input and, by other methods, the output that is wanted.
+// Runs the cases of the standard input through the call that seeks a mark, one to a line, and writes a line for each.
+// The second program makes the input and, by other methods, the output that is wanted.
 //
 //     M mark w w ..    nowhere | some least greatest | all least greatest | refused number text place
 //

@@ -5,10 +5,11 @@
 //                                          | refused number text place outputs work z e
 //     J k rx ry rz n w .. m w .. l w ..    the same with three outputs
 //
-// N: X of n numbers and Y of m numbers under the relation of a rule of that kind (0, 1, 2, 4 or 5), with a work buffer of k bytes and outputs of
-// rx and ry numbers. J: X, Y and Z of n, m and l numbers, the text of X being that of Y followed by that of Z. The numbers of a
-// line are hex, and so are those of the outputs, all of which are shown as they are after the call, each but the first behind
-// a slash; z and e count the bytes 0 that the work buffer begins with and the untouched ones at its end.
+// N: X of n numbers and Y of m numbers under the relation of a rule of that kind (0, 1, 2, 4 or 5), with a work buffer
+// of k bytes and outputs of rx and ry numbers. J: X, Y and Z of n, m and l numbers, the text of X being that of Y
+// followed by that of Z. The numbers of a line are hex, and so are those of the outputs, all of which are shown as they
+// are after the call, each but the first behind a slash; z and e count the bytes 0 that the work buffer begins with and
+// the untouched ones at its end.
 use answers::Narrowed;
 use test_lines::fields::NUMBERS;
 use test_lines::fields::first_list;

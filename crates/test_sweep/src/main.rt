@@ -3,8 +3,8 @@
 //
 //     S r n w .. m w ..    places looks output | cannot looks output | refused number text place output
 //
-// The places of X, n numbers, in Y, m numbers, into an output of r numbers. The numbers of a line are hex, and so are those
-// of the output, all of which is shown as it is after the call.
+// The places of X, n numbers, in Y, m numbers, into an output of r numbers. The numbers of a line are hex, and so are
+// those of the output, all of which is shown as it is after the call.
 use answers::Swept;
 use test_lines::fields::NUMBERS;
 use test_lines::fields::first_list;

@@ -1,10 +1,10 @@
-// Runs the cases of the standard input through a tray of pairs, one tray to a line, and writes a line for each. The second program makes
-// the input and the output that is wanted.
+// Runs the cases of the standard input through a tray of pairs, one tray to a line, and writes a line for each. The
+// second program makes the input and the output that is wanted.
 //
 //     T r n w .. m w ..    judged records | refused number text place records
 //
-// The pairs of the list, m numbers, over the blocks, n numbers, into a row of r records. The numbers of a line are hex. Each record of the
-// row is shown as it is after the call, behind a slash; as found it is a cannot with 0xa5a5 looks.
+// The pairs of the list, m numbers, over the blocks, n numbers, into a row of r records. The numbers of a line are hex.
+// Each record of the row is shown as it is after the call, behind a slash; as found it is a cannot with 0xa5a5 looks.
 use answers::AnswerRecord;
 use answers::SweepVerdict;
 use answers::Tray;

@@ -1,11 +1,11 @@
 -- The order of texts is total, and "before" is its strict part. Assumes nothing.
 use mathlib.Core.Path.{_≡_, refl, ap, subst}
-use mathlib.Core.List.{List, [], _∷_}
+use mathlib.Core.List.{List, [], _∷_, _++_}
 use mathlib.Core.Logic.{_⊎_, inl, inr, ⊎-elim}
 use Prim.Native.Nat.{ℕ, _≤_, _<_}
 use native.Mathlib.Nat.{lt-trans}
 use native.Mathlib.Omega.{arith}
-use Rattle.bases.proofs.Plain.{lt-or-le}
+use Rattle.plain.proofs.Plain.{lt-or-le}
 use Rattle.texts.specs.Order.{AtMost, Before}
 use Rattle.texts.specs.Order.AtMost.{ends as at-ends, less as at-less, same as at-same}
 use Rattle.texts.specs.Order.Before.{ends, less, same}
@@ -95,3 +95,13 @@ before-trans′ (at-less h) (less g) = less (lt-trans h g)
 before-trans′ (at-less h) (same q) = less h
 before-trans′ (at-same p) (less g) = less g
 before-trans′ (at-same p) (same q) = same (before-trans′ p q)
+
+-- ---- a text and it with more behind it
+
+pub before-itself : (t u : List ℕ) (c : ℕ) → Before t (t ++ (c ∷ u))
+before-itself [] u c = ends
+before-itself (d ∷ t) u c = same (before-itself t u c)
+
+pub not-back : (t u : List ℕ) (c : ℕ) → AtMost (t ++ (c ∷ u)) t → ⊥
+not-back (d ∷ t) u c (at-less h) = omega arith
+not-back (d ∷ t) u c (at-same p) = not-back t u c p

@@ -1,5 +1,6 @@
--- Equality but for blanks at the end: an equivalence, that of two texts one of which is the other with blanks behind; leading and inner blanks count. Assumes nothing.
-use mathlib.Core.Path.{_≡_, refl, sym, ap, ap₂, _∙_}
+-- Equality but for blanks at the end: an equivalence, that of two texts one of which is the other with blanks behind;
+-- leading and inner blanks count. Assumes nothing.
+use mathlib.Core.Path.{_≡_, refl, sym, ap, ap₂, _∙_, subst}
 use mathlib.Core.Bool.{Bool, true, false}
 use mathlib.Core.List.{List, [], _∷_, _++_, append-assoc}
 use mathlib.Core.Logic.{_⊎_, inl, inr, ⊎-elim}
@@ -7,10 +8,12 @@ use Prim.Native.Nat.{ℕ, zero, suc, _+_, _-_, _≤_}
 use native.Mathlib.Nat.{le-of-lt}
 use native.Mathlib.Omega.{arith}
 use lib.Dec.{eqb}
-use lib.ListN.{replicate, replicate-append-replicate}
+use lib.ListN.{length, replicate, length-append, replicate-append-replicate}
 use borrow.Author.Tests.{eqb-true}
-use Rattle.bases.proofs.Plain.{lt-or-le}
+use Rattle.plain.proofs.Plain.{lt-or-le}
+use Rattle.texts.specs.Order.{AtMost, Before}
 use Rattle.texts.specs.Padding.{blank, inFront, trimmed, Padded, BlanksBehind}
+use Rattle.texts.proofs.Order.{before-itself, not-back}
 
 -- ---- an equivalence
 
@@ -102,3 +105,26 @@ leading-counts e = let z : _≡_ {A = ℕ} 32 97 = cc in omega arith
 pub inner-counts : Padded (97 ∷ (32 ∷ (98 ∷ []))) (97 ∷ (98 ∷ [])) → ⊥
 unfolding trimmed inFront
 inner-counts e = let z : _≡_ {A = ℕ} 32 98 = cc in omega arith
+
+-- a trimmed text is no longer than the text
+not-longer : (t : List ℕ) → length (trimmed t) ≤ length t
+not-longer t =
+    let b = trimmed-blanks t in
+    let e : length t ≡ length (trimmed t) + length (replicate (b .number) blank) = ap length (b .joined) ∙ length-append (trimmed t) (replicate (b .number) blank) in
+    omega arith
+
+-- a blank at its end would be dropped too
+pub none-left : (t u : List ℕ) → trimmed t ≡ u ++ (blank ∷ []) → ⊥
+none-left t u e =
+    let again : trimmed u ≡ u ++ (blank ∷ []) = sym (padded-blanks u 1) ∙ ap trimmed (sym e) ∙ trimmed-twice t ∙ e in
+    let short = not-longer u in
+    let long : length (trimmed u) ≡ length u + 1 = ap length again ∙ length-append u (blank ∷ []) in
+    omega arith
+
+-- ---- the orders drop none
+
+pub orders-count : (t : List ℕ) (n : ℕ) → Before t (t ++ replicate (n + 1) blank)
+orders-count t n = subst (λ (k : ℕ). Before t (t ++ replicate k blank)) (let e : suc n ≡ n + 1 = omega arith in e) (before-itself t (replicate n blank) blank)
+
+pub orders-count-back : (t : List ℕ) (n : ℕ) → AtMost (t ++ replicate (n + 1) blank) t → ⊥
+orders-count-back t n p = not-back t (replicate n blank) blank (subst (λ (k : ℕ). AtMost (t ++ replicate k blank) t) (let e : n + 1 ≡ suc n = omega arith in e) p)

@@ -1,5 +1,5 @@
--- Document 01, "A book and its run", and document 02, orders 3, 5 and 9: the kinds of a rule, and the relation of two texts that a kind names. That of a join names none,
--- since a join names three texts.
+-- Document 01, "A book and its run", and document 02, orders 3, 5 and 9: the kinds of a rule, and the relation of two
+-- texts that a kind names. That of a join names none, since a join names three texts.
 use mathlib.Core.Path.{_≡_}
 use mathlib.Core.List.{List}
 use Prim.Native.Nat.{ℕ, zero, suc, _≤_}

@@ -5,7 +5,7 @@ use Prim.Native.Nat.{ℕ, _+_, _*_, _≤_}
 use native.Mathlib.Omega.{arith}
 use lib.ListN.{length}
 use Rattle.answers.specs.Told.{Told, told}
-use Rattle.answers.specs.Turns.{here, later}
+use Rattle.answers.specs.Turns.{here, later, inTurn}
 use Rattle.answers.specs.declared.AnswerRecord.{AnswerRecord}
 use Rattle.answers.specs.declared.Refusal.{Refusal}
 use Rattle.answers.specs.declared.Refusal.the-variants.{Range, Size}
@@ -13,21 +13,20 @@ use Rattle.answers.specs.declared.Swept.{Swept}
 use Rattle.answers.specs.declared.SweepVerdict.{SweepVerdict}
 use Rattle.answers.specs.declared.Swept.the-variants.{Places, Cannot, Refused}
 use Rattle.answers.proofs.Told.{told-one}
-use Rattle.answers.proofs.Turns.{OneOf, turns-one, unless-one}
+use Rattle.answers.proofs.Turns.{OneOf, need-one, in-turn-one, lacks}
 use Rattle.shapes.specs.Shape.{Fits, blockCount}
 use Rattle.shapes.specs.Lent.{shapeOf}
 use Rattle.pairs.specs.Pair.{PairAccepted, PairRefused}
-use Rattle.pairs.proofs.Pair.{pair-one, pair-not}
+use Rattle.shapes.proofs.Refused.{of-shape}
 use Rattle.sweep_steps.specs.Steps.{Found, places, cannot, looksOf, sweepOf}
 use Rattle.sweep_steps.proofs.Looks.{looks-bounded}
 use Rattle.sweep_passes.specs.Read.{sweptOf}
 use Rattle.sweeps.proofs.Meaning.{means}
 use Rattle.sweeps.proofs.Whole.{not-refused}
 use Rattle.sweep_calls.specs.Sweep.{SweepRefused, SweepPromise}
-use Rattle.sweep_calls.specs.Sweep.SweepRefused.{shapes, output}
 use Rattle.tray_pairs.specs.Ranges.{Inside, lentIn}
 use Rattle.tray_pairs.specs.Code.{SweptAlone}
-use Rattle.tray_pairs.specs.Judged.{recorded, RecordRefused, RecordAccepted, Judged}
+use Rattle.tray_pairs.specs.Judged.{recorded, recordTurns, RecordRefused, RecordAccepted, Judged}
 use Rattle.tray_pairs.specs.Judged.Judged.{swept, refused}
 use Rattle.tray_pairs.specs.declared.Pair.{Pair}
 
@@ -44,8 +43,8 @@ alone xs ys out out′ (Cannot k) room p = (p .accepted, p .answer)
 alone xs ys out out′ (Refused q) room p = of-shapes (told q) (p .0)
   where
     of-shapes : (t : Told) → SweepRefused xs ys (length out) t → PairRefused xs ys t
-    of-shapes t (shapes d) = d
-    of-shapes t (output a l e) = absurd (omega arith)
+    of-shapes t (here d) = d
+    of-shapes t (later a (here l)) = absurd (l .lacking room)
 
 -- what is refused is not what the steps find, and is refused one way
 not-found : (q : Refusal) (f : Found) → SweepVerdict.Refused q ≡ recorded (sweptOf f) .verdict → ⊥
@@ -73,14 +72,14 @@ unfolding refusalOf
 same-verdict e = ap (λ (r : AnswerRecord). refusalOf (r .verdict)) e
 
 module _ (blocks : List ℕ) (p : Pair) where
-  refusals : OneOf (Inside (blockCount blocks) (p .x) × (Inside (blockCount blocks) (p .y) × PairAccepted (lentIn blocks (p .x)) (lentIn blocks (p .y)))) (RecordRefused blocks p)
-  refusals = turns-one unless-one (turns-one unless-one (record { one = pair-one; not = pair-not }))
+  of-record : OneOf (inTurn (RecordAccepted blocks p) (recordTurns blocks p))
+  of-record = in-turn-one (recordTurns blocks p) (need-one, (need-one, (of-shape, (of-shape, tt)))) (λ a. (a .first, (a .second, (a .shapes .first, (a .shapes .second, tt)))))
 
   pub record-refused-one : {t u : Told} → RecordRefused blocks p t → RecordRefused blocks p u → t ≡ u
-  record-refused-one d e = refusals .one d e
+  record-refused-one d e = of-record .one d e
 
   pub record-refused-not : {t : Told} → RecordRefused blocks p t → RecordAccepted blocks p → ⊥
-  record-refused-not d a = refusals .not d (a .first, (a .second, a .shapes))
+  record-refused-not d a = of-record .not d a
 
   -- a refused record: its refusal is the one that is due
   pub record-refused : (q : Refusal) → Judged blocks p (recorded (Refused q)) → RecordRefused blocks p (told q)
@@ -122,10 +121,10 @@ module _ (blocks : List ℕ) (p : Pair) where
   inside-judged i j (Refused q) d = refused q (later i (later j d)) refl
 
   pub first-outside : (Inside (blockCount blocks) (p .x) → ⊥) → Judged blocks p (recorded (Refused (Range 1)))
-  first-outside o = refused (Range 1) (here (record { lacking = o; tells = refl })) refl
+  first-outside o = refused (Range 1) (here (lacks o)) refl
 
   pub second-outside : Inside (blockCount blocks) (p .x) → (Inside (blockCount blocks) (p .y) → ⊥) → Judged blocks p (recorded (Refused (Range 2)))
-  second-outside i o = refused (Range 2) (later i (here (record { lacking = o; tells = refl }))) refl
+  second-outside i o = refused (Range 2) (later i (here (lacks o))) refl
 
   -- equal to what a single call gives
   pub as-single : (out out′ : List ℕ) (r : AnswerRecord) (s : Swept) → Inside (blockCount blocks) (p .x) → Inside (blockCount blocks) (p .y) → 2 * length (shapeOf (lentIn blocks (p .x))) ≤ length out

@@ -1,4 +1,5 @@
--- Ranges: which are not inside, an empty one, and what numbers left over behind the last whole block change, which is nothing. Assumes nothing.
+-- Ranges: which are not inside, an empty one, and what numbers left over behind the last whole block change, which is
+-- nothing. Assumes nothing.
 use mathlib.Core.Path.{_≡_, sym, ap, ap₂, _∙_, subst, subst₂}
 use mathlib.Core.List.{List, _++_}
 use mathlib.Core.Logic.{_⊎_, inl, inr}
@@ -9,10 +10,9 @@ use lib.Seq.{drop-append-le, take-append-le}
 use Rattle.answers.specs.Told.{Told, tell}
 use Rattle.answers.specs.Turns.{here, later}
 use Rattle.answers.specs.declared.AnswerRecord.{AnswerRecord}
-use Rattle.bases.proofs.Plain.{lt-or-le}
+use Rattle.plain.proofs.Plain.{lt-or-le}
 use Rattle.shapes.specs.Shape.{blockSize, blockCount}
 use Rattle.shapes.specs.Lent.{shapeOf, ShapeRefused}
-use Rattle.shapes.specs.Lent.ShapeRefused.{wrong-length}
 use Rattle.pairs.specs.Pair.{PairAccepted, PairRefused}
 use Rattle.sweep_steps.specs.Steps.{sweepOf}
 use Rattle.sweep_passes.specs.Read.{sweptOf}
@@ -38,7 +38,7 @@ not-inside (inr l) i = let w = i .within in omega arith
 pub empty-refused : (n : ℕ) (blocks : List ℕ) (r : Range) (t : Told) → r .first ≡ r .past → t ≡ tell 1 n 0 → ShapeRefused n (lentIn blocks r) t
 empty-refused n blocks r t e told =
     let none : (r .past - r .first) * blockSize ≡ 0 = omega (arith, e) in
-    subst (λ (m : ℕ). ShapeRefused n (take m (drop (r .first * blockSize) blocks)) t) (sym none) (wrong-length (λ l. let s = l .some in omega arith) told)
+    subst (λ (m : ℕ). ShapeRefused n (take m (drop (r .first * blockSize) blocks)) t) (sym none) (here (record { lacking = λ l. let s = l .some in omega arith; tells = told }))
 
 -- ---- numbers left over
 

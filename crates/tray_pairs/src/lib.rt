@@ -6,7 +6,7 @@ use answers::SweepVerdict;
 use answers::Swept;
 ghost use mathlib.Core.Path.{_≡_};
 ghost use Prim.Native.Nat.{_<_};
-ghost use Rattle.bases.specs.Tells.{Tells};
+ghost use Rattle.plain.specs.Tells.{Tells};
 ghost use Rattle.tray_pairs.specs.Code.{SweptAlone};
 ghost use Rattle.tray_pairs.specs.Judged.{recorded, Judged};
 ghost use Rattle.tray_pairs.specs.Ranges.{pairCount, pairAt, Inside};

@@ -15,7 +15,8 @@ pub struct Batch {
     pub row: [AnswerRecord; 66],
 }
 
-// The first n records are lent to the call. It stands by itself, since its proof is by hand: an array of structs is lent.
+// The first n records are lent to the call. It stands by itself, since its proof is by hand: an array of structs is
+// lent.
 pub fn sweep_row(blocks: &[u64], pairs: &[u64], mut row: [AnswerRecord; 66], n: usize) -> Batch
     requires { ⌜ n ≤ 66 ⌝ }
     ensures { λ r. ⌜ SweepTray (now (blocks .entry)) (now (pairs .entry)) (take n row) (take n (r .row)) (r .tray) × (drop n (r .row) ≡ drop n row) ⌝ }

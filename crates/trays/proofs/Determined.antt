@@ -2,31 +2,32 @@
 use mathlib.Core.Path.{_≡_, refl, sym, ap, _∙_, subst}
 use mathlib.Core.List.{List}
 use mathlib.Core.Logic.{_⊎_, inl, inr}
-use Prim.Native.Nat.{ℕ, _+_, _-_, _/_, _≤_, _<_}
-use Rattle.bases.proofs.Plain.{lt-or-le}
+use Prim.Native.Nat.{ℕ, _+_, _-_, _≤_, _<_}
+use Rattle.plain.proofs.Plain.{lt-or-le}
 use native.Mathlib.Omega.{arith}
 use lib.ListN.{getD}
 use lib.Seq.{getD-drop, ext-getD}
 use Rattle.answers.specs.Told.{Told}
+use Rattle.answers.specs.Turns.{inTurn}
 use Rattle.answers.specs.declared.AnswerRecord.{AnswerRecord}
 use Rattle.answers.specs.declared.SweepVerdict.{SweepVerdict}
 use Rattle.answers.specs.declared.Tray.{Tray}
 use Rattle.answers.specs.declared.Tray.the-variants.{Judged as is-judged, Refused}
 use Rattle.answers.proofs.Told.{told-one}
-use Rattle.answers.proofs.Turns.{OneOf, turns-one, unless-one}
-use Rattle.tray_pairs.specs.Ranges.{pairSize, pairAt}
+use Rattle.answers.proofs.Turns.{OneOf, need-one, in-turn-one}
+use Rattle.tray_pairs.specs.Ranges.{pairAt}
 use Rattle.tray_pairs.proofs.Judged.{judged-one}
-use Rattle.trays.specs.Tray.{RightList, TrayRefused, TrayAccepted, Filled, TrayPromise}
+use Rattle.trays.specs.Tray.{trayTurns, TrayRefused, TrayAccepted, Filled, TrayPromise}
 
 module _ {listed room : ℕ} where
-  refusals : OneOf (RightList listed × (listed / pairSize ≤ room)) (TrayRefused listed room)
-  refusals = turns-one unless-one unless-one
+  of-tray : OneOf (inTurn (TrayAccepted listed room) (trayTurns listed room))
+  of-tray = in-turn-one (trayTurns listed room) (need-one, (need-one, tt)) (λ a. (a .list, (a .row, tt)))
 
   pub tray-refused-one : {t u : Told} → TrayRefused listed room t → TrayRefused listed room u → t ≡ u
-  tray-refused-one p q = refusals .one p q
+  tray-refused-one p q = of-tray .one p q
 
   pub tray-refused-not : {t : Told} → TrayRefused listed room t → TrayAccepted listed room → ⊥
-  tray-refused-not p a = refusals .not p (a .list, a .row)
+  tray-refused-not p a = of-tray .not p a
 
 -- two rows filled from one
 module _ {blocks pairs : List ℕ} {n : ℕ} {row row′ row″ : List AnswerRecord} (f : Filled blocks pairs n row row′) (g : Filled blocks pairs n row row″) where

@@ -12,7 +12,7 @@ use Rattle.answers.specs.declared.Tray.{Tray}
 use Rattle.answers.specs.declared.Tray.the-variants.{Judged as is-judged, Refused}
 use Rattle.tray_pairs.specs.Judged.{Judged}
 use Rattle.tray_pairs.specs.Ranges.{pairSize, pairAt}
-use Rattle.trays.specs.Code.{Ends, Counted}
+use Rattle.trays.specs.Code.{TrayEnds, Counted}
 use Rattle.trays.specs.Code.Counted.{each-pair, no-pair}
 use Rattle.trays.specs.Tray.{Filled, TrayPromise}
 use Rattle.trays.proofs.Determined.{tray-refused-not}
@@ -47,7 +47,7 @@ module _ {listed room n : ℕ} where
   counted-row (no-pair a e) = omega (arith, e)
 
 module _ (blocks pairs : List ℕ) (row row′ : List AnswerRecord) {n : ℕ} where
-  pub promised : (r : Tray) → Counted (length pairs) (length row) n → Ends (length pairs) (length row) r → Filled blocks pairs n row row′ → TrayPromise blocks pairs row row′ r
+  pub promised : (r : Tray) → Counted (length pairs) (length row) n → TrayEnds (length pairs) (length row) r → Filled blocks pairs n row row′ → TrayPromise blocks pairs row row′ r
   promised is-judged (each-pair a e) d f = (d, subst (λ (k : ℕ). Filled blocks pairs k row row′) e f)
   promised is-judged (no-pair a e) d f = absurd (a d)
   promised (Refused q) (each-pair a e) d f = absurd (tray-refused-not d a)

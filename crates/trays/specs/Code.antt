@@ -8,9 +8,9 @@ use Rattle.tray_pairs.specs.Ranges.{pairSize}
 use Rattle.trays.specs.Tray.{TrayAccepted, TrayRefused}
 
 -- how the call ends
-abbrev pub Ends : ℕ → ℕ → Tray → Type 0
-Ends listed room Judged = TrayAccepted listed room
-Ends listed room (Refused q) = TrayRefused listed room (told q)
+abbrev pub TrayEnds : ℕ → ℕ → Tray → Type 0
+TrayEnds listed room Judged = TrayAccepted listed room
+TrayEnds listed room (Refused q) = TrayRefused listed room (told q)
 
 -- how many records are written: one to each pair, or none
 pub data Counted (listed room n : ℕ) : Type 0 where

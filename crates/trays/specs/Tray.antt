@@ -1,10 +1,11 @@
--- Document 02, order 8: what the call on a tray of pairs promises. Lent: a run of blocks, a list of pairs, a row of answer records; row′ is the row as handed back.
+-- Document 02, order 8: what the call on a tray of pairs promises. Lent: a run of blocks, a list of pairs, a row of
+-- answer records; row′ is the row as handed back.
 use mathlib.Core.Path.{_≡_}
-use mathlib.Core.List.{List}
+use mathlib.Core.List.{List, [], _∷_}
 use Prim.Native.Nat.{ℕ, _/_, _%_, _≤_, _<_}
 use lib.ListN.{length, getD, drop}
 use Rattle.answers.specs.Told.{Told, tell, told}
-use Rattle.answers.specs.Turns.{Turns, Unless}
+use Rattle.answers.specs.Turns.{Turn, FirstDue, need}
 use Rattle.answers.specs.declared.AnswerRecord.{AnswerRecord}
 use Rattle.answers.specs.declared.Tray.{Tray}
 use Rattle.answers.specs.declared.Tray.the-variants.{Judged as is-judged, Refused}
@@ -16,16 +17,20 @@ pub record RightList (listed : ℕ) : Type 0 where
   pub whole : listed % pairSize ≡ 0
   pub few : listed / pairSize ≤ 64
 
--- "15 for over 64 pairs or a list that is not whole pairs, then 5 for a row shorter than the pairs, both for the whole call, place 0"
+-- "15 for over 64 pairs or a list that is not whole pairs, then 5 for a row shorter than the pairs, both for the whole
+-- call, place 0"
+abbrev pub trayTurns : ℕ → ℕ → List Turn
+trayTurns listed room = need (RightList listed) (tell 15 0 0) ∷ need (listed / pairSize ≤ room) (tell 5 0 0) ∷ []
+
 abbrev pub TrayRefused : ℕ → ℕ → Told → Type 0
-TrayRefused listed room = Turns (RightList listed) (Unless (RightList listed) (tell 15 0 0)) (Unless (listed / pairSize ≤ room) (tell 5 0 0))
+TrayRefused listed room = FirstDue (trayTurns listed room)
 
 pub record TrayAccepted (listed room : ℕ) : Type 0 where
   pub list : RightList listed
   pub row : listed / pairSize ≤ room
 
--- "The call fills a lent row of answer records, one to each pair", whatever the other pairs are. "Records past the last pair stay."
--- (n pairs; d is any record, looked at only past the end.)
+-- "The call fills a lent row of answer records, one to each pair", whatever the other pairs are. "Records past the last
+-- pair stay." (n pairs; d is any record, looked at only past the end.)
 pub record Filled (blocks pairs : List ℕ) (n : ℕ) (row row′ : List AnswerRecord) : Type 0 where
   pub same-length : length row′ ≡ length row
   pub judged : (i : ℕ) → i < n → (d : AnswerRecord) → Judged blocks (pairAt pairs i) (getD row′ i d)

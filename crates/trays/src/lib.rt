@@ -2,12 +2,12 @@
 use answers::AnswerRecord;
 use answers::Refusal;
 use answers::Tray;
-ghost use Rattle.trays.specs.Code.{Ends, Counted};
+ghost use Rattle.trays.specs.Code.{TrayEnds, Counted};
 ghost use Rattle.trays.specs.Tray.{TrayPromise};
 
 // How the call ends, from the lengths of the list of pairs and of the row.
 fn ending(listed: usize, room: usize) -> Tray
-    ensures { λ r. ⌜ Ends listed room r ⌝ }
+    ensures { λ r. ⌜ TrayEnds listed room r ⌝ }
 {
     if listed % tray_pairs::SIZE != 0 {
         return Tray::Refused(Refusal::Pairs);
@@ -31,8 +31,9 @@ fn count(listed: usize, room: usize) -> usize
     }
 }
 
-// Judges each pair of the list, at most 64, by the quick sweep of its first range in its second, into the record of its number. A pair is four numbers: each range's
-// first block, from 0, and the block past its last. A bad pair is refused in its own record; records past the last pair stay.
+// Judges each pair of the list, at most 64, by the quick sweep of its first range in its second, into the record of its
+// number. A pair is four numbers: each range's first block, from 0, and the block past its last. A bad pair is refused
+// in its own record; records past the last pair stay.
 //
 // The loop only stores, since its proof is by hand: a slice of structs is written.
 pub fn sweep_tray(blocks: &[u64], pairs: &[u64], row: &mut [AnswerRecord]) -> Tray

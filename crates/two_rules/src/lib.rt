@@ -2,21 +2,22 @@
 use book_steps::Applied;
 use rules::Rule;
 ghost use mathlib.Core.Path.{_≡_};
-ghost use Prim.Native.Nat.{_≤_};
+ghost use Prim.Native.Nat.{_≤_, _*_};
 ghost use lib.ListN.{length};
 ghost use Rattle.texts.specs.Kind.{joinKind, relationOf};
 ghost use Rattle.pairs.specs.Narrow.{NarrowAnswer};
 ghost use Rattle.books.specs.Rules.{RightRule};
 ghost use Rattle.books.specs.Code.{numbersIn};
 ghost use Rattle.book_steps.specs.Step.{Texts, RuleApplied};
+ghost use Rattle.shapes.specs.Shape.{mostBlocks, blockSize};
 
 // Narrows the two texts of a rule that is no join, into the first numbers of x and y.
 fn narrow_two(counts: &[u64], numbers: &[u64], rule: Rule, x: &mut [u64], y: &mut [u64]) -> bool
     requires { ⌜ Texts (now counts) (now numbers) ⌝ }
     requires { ⌜ RightRule (now counts) rule ⌝ }
     requires { ⌜ (rule .kind ≡ joinKind → ⊥) ⌝ }
-    requires { ⌜ 128 ≤ length (now x) ⌝ }
-    requires { ⌜ 128 ≤ length (now y) ⌝ }
+    requires { ⌜ mostBlocks * blockSize ≤ length (now x) ⌝ }
+    requires { ⌜ mostBlocks * blockSize ≤ length (now y) ⌝ }
     ensures { λ r. ⌜ NarrowAnswer (relationOf (rule .kind)) (numbersIn (now (counts .entry)) (now (numbers .entry)) (rule .a))
         (numbersIn (now (counts .entry)) (now (numbers .entry)) (rule .b)) (now (x .entry)) (now (y .entry)) (now (x .exit)) (now (y .exit)) r ⌝ }
 {
@@ -42,8 +43,8 @@ pub fn apply_two(counts: &[u64], numbers: &mut [u64], rule: Rule) -> Applied
     requires { ⌜ (rule .kind ≡ joinKind → ⊥) ⌝ }
     ensures { λ r. ⌜ RuleApplied (now (counts .entry)) rule (now (numbers .entry)) (now (numbers .exit)) r ⌝ }
 {
-    let mut x = [0u64; 128];
-    let mut y = [0u64; 128];
+    let mut x = [0u64; shapes::MOST * shapes::SIZE];
+    let mut y = [0u64; shapes::MOST * shapes::SIZE];
     if !narrow_two(counts, numbers, rule, &mut x, &mut y) {
         return Applied::None;
     }

@@ -1,4 +1,5 @@
-// At which column does the unit start? Asks it of the torque line, `T`, a number with two decimals and `Nm`, as a program of one's own would.
+// At which column does the unit start? Asks it of the torque line, `T`, a number with two decimals and `Nm`, as a
+// program of one's own would.
 use answers::Index;
 use answers::Sought;
 

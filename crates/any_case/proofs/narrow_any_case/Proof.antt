@@ -1,4 +1,5 @@
--- `any_case::narrow_any_case`: both shapes with both cases of their letters, narrowed to the letter; what is left, cut with the shapes. Assumes nothing.
+-- `any_case::narrow_any_case`: both shapes with both cases of their letters, narrowed to the letter; what is left, cut
+-- with the shapes. Assumes nothing.
 use mathlib.Core.Path.{_≡_, sym}
 use mathlib.Core.List.{List}
 use Prim.Native.Nat.{ℕ}

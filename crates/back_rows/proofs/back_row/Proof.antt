@@ -1,4 +1,5 @@
--- `back_rows::back_row`: the row is the closure of what one character or the end of the run leads on from; the rest is gathered beside it. Assumes nothing.
+-- `back_rows::back_row`: the row is the closure of what one character or the end of the run leads on from; the rest is
+-- gathered beside it. Assumes nothing.
 use native.Mathlib.Omega.{arith}
 use Rattle.sets.specs.Set.{setOf}
 use Rattle.row_paths.proofs.Back.{gathered-more}

@@ -1,5 +1,5 @@
 -- `back_rows::row_word`: as `back_row`. Assumes nothing.
-use mathlib.Core.Path.{_≡_, sym, _∙_}
+use mathlib.Core.Path.{sym, _∙_}
 use Rattle.sets.specs.Set.{setOf}
 use Rattle.sets.proofs.Exact.{exactly-at}
 use Rattle.row_paths.proofs.Back.{gathered-more}

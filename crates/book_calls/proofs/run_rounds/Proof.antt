@@ -1,4 +1,5 @@
--- `book_calls::run_rounds`: at the head of a turn the runner stands before rule k with what it has made so far. Assumes nothing.
+-- `book_calls::run_rounds`: at the head of a turn the runner stands before rule k with what it has made so far. Assumes
+-- nothing.
 use mathlib.Core.Path.{_≡_, refl, sym, ap, _∙_, subst}
 use mathlib.Core.Bool.{Bool, true}
 use mathlib.Core.List.{List}
@@ -7,7 +8,7 @@ use native.Mathlib.Omega.{arith}
 use borrow.Author.Needs.{needs}
 use borrow.Author.Tests.{not-true, not-false}
 use lib.ListN.{length}
-use Rattle.shapes.specs.All.{All}
+use Rattle.plain.specs.All.{All}
 use Rattle.shapes.specs.Shape.{Small}
 use Rattle.shapes.specs.Lent.{shapeOf}
 use Rattle.book_runs.specs.Room.{roomOf}
@@ -18,11 +19,13 @@ use Rattle.books.proofs.Joinable.{rules-within}
 use Rattle.book_runs.specs.Code.{owed, Made}
 use Rattle.book_steps.specs.Step.{Standing, AppliedSays}
 use Rattle.hulls.proofs.Hull.{hull-within}
-use Rattle.shapes.proofs.All.{all-of}
+use Rattle.plain.proofs.All.{all-of}
 use Rattle.shapes.proofs.Lent.{small-bases}
 use Rattle.hulls.proofs.Small.{within-small}
 use Rattle.book_steps.proofs.Standing.{few-blocks, blocks-size, blocks-sound, standing-next}
 use Rattle.book_runs.proofs.Made.{made-start, made-most, made-none, made-same, made-changed, made-round, made-stable, made-count}
+use Rattle.rules.specs.Limits.{mostRules, bookBlocks}
+use Rattle.bases.specs.Base.{codes}
 use Rattle.book_calls.proofs.run_rounds.Statement.{statement}
 use Rattle.book_calls.proofs.run_rounds.Tie as tie
 
@@ -80,7 +83,7 @@ within : (c : tie.After-apply-rule Inv-loop μ-loop) → c .before .before .befo
 within c = let other = c .before .before .if1 .left in let h = c .before .before .before .loop .inv .0 in let g = c .before .before .before .loop .inv .1 in omega arith
 
 -- and the count is small
-count : (c : tie.After-apply-rule Inv-loop μ-loop) → c .before .before .before .loop .made ≤ 1548304
+count : (c : tie.After-apply-rule Inv-loop μ-loop) → c .before .before .before .loop .made ≤ mostRules * (bookBlocks * (codes + 250)) + mostRules
 count c =
     let l = c .before .before .before .loop in
     let p = c .before .before .before .before .before .before .before .pre in

@@ -1,14 +1,16 @@
 -- `book_checks::check_book`: the counts, the texts, the rules and the work buffer, in this order. Assumes nothing.
-use mathlib.Core.Path.{_≡_, refl, subst}
+use mathlib.Core.Path.{_≡_, subst}
 use mathlib.Core.List.{List}
 use Prim.Native.Nat.{ℕ}
+use native.Mathlib.Omega.{arith}
 use borrow.Author.Needs.{needs}
 use borrow.Author.Tests.{not-true, not-false}
+use Rattle.answers.specs.Turns.{here, later}
 use Rattle.answers.specs.declared.Checked.{Checked}
+use Rattle.answers.proofs.Turns.{lacks}
 use Rattle.shapes.specs.Lent.{shapeOf}
 use Rattle.books.specs.Counts.{RightCounts}
 use Rattle.books.specs.Refused.{SoundTexts, SoundRules}
-use Rattle.books.specs.Refused.BookRefused.{wrong-counts, wrong-text, wrong-rule, short-work}
 use Rattle.books.specs.Code.{TextsChecked, KnownTexts, RulesChecked}
 use Rattle.book_checks.proofs.check_book.Statement.{statement}
 use Rattle.book_checks.proofs.check_book.Tie as tie
@@ -17,7 +19,7 @@ right-counts-requires : tie.Need-right-counts-requires
 right-counts-requires c κs = search needs
 
 returns : tie.Need-returns
-returns c = wrong-counts (λ r. c .before .right-counts .ensures .not-so (not-true _ (c .if1 .taken)) r) refl
+returns c = here (lacks (c .before .right-counts .ensures .not-so (not-true _ (c .if1 .taken))))
 
 -- past the first test the counts are right
 module _ (c : tie.Else1) where
@@ -79,19 +81,17 @@ sound c = rules-told (c .before .before) (c .enum-told2 .given .1)
 returns-2 : tie.Need-returns-2
 returns-2 c =
     let p = c .before .before .before in
-    short-work (counted (past p)) (texts p) (sound (c .before)) (c .if2 .taken) refl
+    later (counted (past p)) (later (texts p) (later (sound (c .before)) (here (lacks (λ h. let z = c .if2 .taken in omega arith)))))
 
 returns-3 : tie.Need-returns-3
 returns-3 c =
     let p = c .before .before .before in
-    let first = texts-told p (c .before .r .given .1) in
-    wrong-text (counted (p .before)) (first .0) (first .1)
+    later (counted (p .before)) (here (texts-told p (c .before .r .given .1)))
 
 returns-4 : tie.Need-returns-4
 returns-4 c =
     let p = c .before .before .before in
-    let first = rules-told p (c .before .r2 .given .1) in
-    wrong-rule (counted (past p)) (texts p) (first .0) (first .1)
+    later (counted (past p)) (later (texts p) (here (rules-told p (c .before .r2 .given .1))))
 
 returns-5 : tie.Need-returns-5
 returns-5 c =

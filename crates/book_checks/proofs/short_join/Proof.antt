@@ -1,7 +1,8 @@
--- `book_checks::short_join`: nothing is asked of a rule that is no join; else the uppers of b and c are added. Assumes nothing.
+-- `book_checks::short_join`: nothing is asked of a rule that is no join; else the uppers of b and c are added. Assumes
+-- nothing.
 use native.Mathlib.Omega.{arith}
 use borrow.Author.Needs.{needs}
-use Rattle.bases.proofs.Tells.{tells-true, tells-false}
+use Rattle.plain.proofs.Tells.{tells-true, tells-false}
 use Rattle.books.specs.Rules.{Names}
 use Rattle.books.proofs.Fourth.{third-named}
 use Rattle.book_checks.proofs.short_join.Statement.{statement}

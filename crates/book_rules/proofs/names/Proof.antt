@@ -1,6 +1,6 @@
 -- `book_rules::names`: texts count from 1. Assumes nothing.
 use native.Mathlib.Omega.{arith}
-use Rattle.bases.proofs.Tells.{tells-true, tells-false}
+use Rattle.plain.proofs.Tells.{tells-true, tells-false}
 use Rattle.book_rules.proofs.names.Statement.{statement}
 use Rattle.book_rules.proofs.names.Tie as tie
 

@@ -1,7 +1,7 @@
 -- `book_rules::right_fourth`: 0 where the rule is no join; else a text, and neither of the two others. Assumes nothing.
 use borrow.Author.Needs.{needs}
 use borrow.Author.Tests.{not-true, not-false, eqb-true, eqb-false}
-use Rattle.bases.proofs.Tells.{tells-true, tells-false}
+use Rattle.plain.proofs.Tells.{tells-true, tells-false}
 use Rattle.books.specs.Rules.RightFourth.{joins, unused}
 use Rattle.books.proofs.Fourth.{third-named, third-not-first, third-not-second, fourth-zero}
 use Rattle.book_rules.proofs.right_fourth.Statement.{statement}

@@ -2,7 +2,7 @@
 use native.Mathlib.Omega.{arith}
 use borrow.Author.Needs.{needs}
 use borrow.Author.Tests.{not-true, not-false}
-use Rattle.bases.proofs.Tells.{tells-true, tells-false}
+use Rattle.plain.proofs.Tells.{tells-true, tells-false}
 use Rattle.book_rules.proofs.right_rule.Statement.{statement}
 use Rattle.book_rules.proofs.right_rule.Tie as tie
 

@@ -4,7 +4,7 @@ use Prim.Native.Nat.{ℕ, _+_, _-_, _≤_}
 use native.Mathlib.Omega.{arith}
 use lib.ListN.{length, take, drop, length-drop}
 use lib.Seq.{length-take-le}
-use Rattle.bases.proofs.Tells.{tells-false}
+use Rattle.plain.proofs.Tells.{tells-false}
 use Rattle.laying.specs.Laid.{replaced}
 use Rattle.laying.proofs.Laid.{stood-there}
 use Rattle.book_steps.proofs.Laid.{tells-kept}

@@ -4,8 +4,8 @@ use native.Mathlib.Omega.{arith}
 use borrow.Author.Needs.{needs}
 use borrow.Author.Tests.{not-true, not-false}
 use lib.ListN.{length}
-use Rattle.bases.proofs.Tells.{tells-true, tells-false}
-use Rattle.shapes.specs.All.{All}
+use Rattle.plain.proofs.Tells.{tells-true, tells-false}
+use Rattle.plain.specs.All.{All}
 use Rattle.books.specs.Counts.{sumOf, RightCount}
 use Rattle.books.proofs.Sums.{sum-all, sum-small}
 use Rattle.book_texts.proofs.right_counts.Statement.{statement}

@@ -5,9 +5,9 @@ use native.Mathlib.Omega.{arith}
 use borrow.Author.Needs.{needs}
 use lib.ListN.{length, take}
 use lib.Seq.{take-all}
-use Rattle.bases.proofs.Tells.{tells-true, tells-false}
-use Rattle.shapes.specs.All.{All}
-use Rattle.shapes.proofs.All.{all-at, all-one-more}
+use Rattle.plain.proofs.Tells.{tells-true, tells-false}
+use Rattle.plain.specs.All.{All}
+use Rattle.plain.proofs.All.{all-at, all-one-more}
 use Rattle.books.specs.Counts.{RightCount}
 use Rattle.book_texts.proofs.right_each.Statement.{statement}
 use Rattle.book_texts.proofs.right_each.Tie as tie

@@ -4,7 +4,7 @@ use Prim.Native.Nat.{ℕ, _-_, _≤_}
 use native.Mathlib.Omega.{arith}
 use borrow.Author.Needs.{needs}
 use lib.ListN.{getD, take}
-use Rattle.shapes.proofs.All.{all-at}
+use Rattle.plain.proofs.All.{all-at}
 use Rattle.books.specs.Counts.{sumOf}
 use Rattle.books.proofs.Sums.{sum-one-more, sum-small}
 use Rattle.books.proofs.blocks_before.Statement.{statement}

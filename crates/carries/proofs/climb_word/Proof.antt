@@ -1,7 +1,7 @@
 -- `carries::climb_word`: the carries of a sum. Assumes nothing.
 use mathlib.Core.Path.{refl}
 use Prim.Native.Nat.{_^_, _<_}
-use lib.Bits.{bitAnd, xor-lt, and-lt}
+use lib.Bits.{xor-lt, and-lt}
 use Rattle.carries.proofs.Carry.{climb-exactly}
 use borrow.Author.Needs.{needs}
 use Rattle.carries.proofs.climb_word.Statement.{statement}

@@ -1,10 +1,11 @@
--- `carries::fall_wide`: what falls within d numbers, twice as many each turn, until nothing goes on farther. Assumes nothing.
-use mathlib.Core.Path.{_≡_, refl, sym, ap, _∙_, subst}
-use Prim.Native.Nat.{ℕ, _-_, _≤_, _<_, _^_}
+-- `carries::fall_wide`: what falls within d numbers, twice as many each turn, until nothing goes on farther. Assumes
+-- nothing.
+use mathlib.Core.Path.{_≡_, sym, ap, _∙_, subst}
+use Prim.Native.Nat.{ℕ, _-_, _≤_, _^_}
 use native.Mathlib.Omega.{arith}
 use borrow.Author.Needs.{needs}
 use Rattle.sets.specs.Set.{setOf, Exactly}
-use Rattle.rows.specs.Row.{rowIn, rowCount}
+use Rattle.rows.specs.Row.{rowCount}
 use Rattle.carries.specs.Climb.{Near, Spans, Goes, NoFarther}
 use Rattle.carries.proofs.Doubled.{near-more, near-all}
 use Rattle.carries.proofs.Spanned.{doubled, at-most-128}

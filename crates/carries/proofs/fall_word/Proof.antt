@@ -1,6 +1,6 @@
 -- `carries::fall_word`: as `fall_wide`, in one word. Assumes nothing.
-use mathlib.Core.Path.{_≡_, refl, subst, sym}
-use Prim.Native.Nat.{ℕ, _-_, _≤_, _<_}
+use mathlib.Core.Path.{refl, subst, sym}
+use Prim.Native.Nat.{ℕ, _-_, _<_}
 use native.Mathlib.Omega.{arith}
 use borrow.Author.Needs.{needs}
 use Rattle.bases.specs.Base.{Holds, Empty}

@@ -1,5 +1,5 @@
 -- `carries::lower`: by whole words, then by what is left. Assumes nothing.
-use mathlib.Core.Path.{_≡_, refl, sym, ap, _∙_}
+use mathlib.Core.Path.{_≡_, refl, ap, _∙_}
 use Prim.Native.Nat.{ℕ, _+_, _-_, _/_, _^_}
 use native.Mathlib.Omega.{arith}
 use lib.Pow.{shr-shr}

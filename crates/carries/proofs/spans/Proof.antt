@@ -1,6 +1,7 @@
--- `carries::spans`: from where twice as many numbers go on each turn, until that is nowhere or as many as there are. Assumes nothing.
+-- `carries::spans`: from where twice as many numbers go on each turn, until that is nowhere or as many as there are.
+-- Assumes nothing.
 use mathlib.Core.Path.{_≡_, refl, sym, _∙_, subst}
-use Prim.Native.Nat.{ℕ, _-_, _≤_, _<_, _^_, _*_}
+use Prim.Native.Nat.{ℕ, _-_, _≤_, _<_, _^_}
 use native.Mathlib.Omega.{arith}
 use lib.ListN.{length}
 use borrow.Author.Needs.{needs}

@@ -1,16 +1,18 @@
 -- `case_blocks::cut`: the blocks before block i are cut, the others as they were. Assumes nothing.
 use mathlib.Core.Path.{_≡_}
-use Prim.Native.Nat.{_-_, _/_, _≤_}
+use Prim.Native.Nat.{_-_, _≤_}
 use native.Mathlib.Omega.{arith}
-use lib.ListN.{length}
+use Rattle.shapes.specs.Shape.{blockCount}
+use Rattle.bases.proofs.Sets.{cut-small}
+use Rattle.bases.specs.Base.{codes}
 use Rattle.case_blocks.specs.Code.{CutTo}
-use Rattle.case_blocks.proofs.Steps.{cut-small, cut-none, cut-block, cut-more, cut-whole}
+use Rattle.case_blocks.proofs.Steps.{cut-none, cut-block, cut-more, cut-whole}
 use borrow.Author.Needs.{needs}
 use Rattle.case_blocks.proofs.cut.Statement.{statement}
 use Rattle.case_blocks.proofs.cut.Tie as tie
 
 abbrev Inv-loop : tie.InvT-loop
-Inv-loop x out₀ n i₀ out i = (n ≡ length x / 4) × (i ≤ n) × CutTo x i out₀ out
+Inv-loop x out₀ n i₀ out i = (n ≡ blockCount x) × (i ≤ n) × CutTo x i out₀ out
 
 abbrev μ-loop : tie.MeasureT-loop
 μ-loop x out₀ n i₀ out i = n - i
@@ -37,7 +39,7 @@ put-block-requires c κs =
     let l = b .before .before in
     let room = l .before .before .before .pre in
     let long = l .loop .inv .2 .long in
-    (omega arith, cut-small _ _ (c .before .both .ensures) (b .block-at .ensures .1))
+    (omega arith, cut-small codes _ _ (c .before .both .ensures) (b .block-at .ensures .1))
 
 add-i : tie.Need-add-i Inv-loop μ-loop
 add-i c = omega arith
@@ -57,7 +59,7 @@ same-length : tie.Need-same-length Inv-loop μ-loop
 same-length c = c .before .loop .inv .2 .long
 
 returns : tie.Need-returns Inv-loop μ-loop
-returns c = let l = c .before .loop in cut-whole (let e : l .i ≡ length (c .before .before .before .before .args .x .now) / 4 = omega arith in e) (l .inv .2)
+returns c = let l = c .before .loop in cut-whole (let e : l .i ≡ blockCount (c .before .before .before .before .args .x .now) = omega arith in e) (l .inv .2)
 
 pub cut-spec : {M : Type 1} → statement M
 cut-spec =

@@ -1,8 +1,8 @@
 -- `case_blocks::widen`: the blocks before block i are laid with both cases. Assumes nothing.
 use mathlib.Core.Path.{_≡_}
-use Prim.Native.Nat.{_-_, _/_, _≤_}
+use Prim.Native.Nat.{_-_, _≤_}
 use native.Mathlib.Omega.{arith}
-use lib.ListN.{length}
+use Rattle.shapes.specs.Shape.{blockCount}
 use Rattle.case_blocks.specs.Code.{WidenedTo}
 use Rattle.letters.proofs.Bases.{both-small}
 use Rattle.case_blocks.proofs.Steps.{widened-none, widened-block, widened-more, widened-whole}
@@ -11,7 +11,7 @@ use Rattle.case_blocks.proofs.widen.Statement.{statement}
 use Rattle.case_blocks.proofs.widen.Tie as tie
 
 abbrev Inv-loop : tie.InvT-loop
-Inv-loop x wide₀ n i₀ wide i = (n ≡ length x / 4) × (i ≤ n) × WidenedTo x i wide₀ wide
+Inv-loop x wide₀ n i₀ wide i = (n ≡ blockCount x) × (i ≤ n) × WidenedTo x i wide₀ wide
 
 abbrev μ-loop : tie.MeasureT-loop
 μ-loop x wide₀ n i₀ wide i = n - i
@@ -50,7 +50,7 @@ same-length : tie.Need-same-length Inv-loop μ-loop
 same-length c = c .before .loop .inv .2 .long
 
 returns : tie.Need-returns Inv-loop μ-loop
-returns c = let l = c .before .loop in widened-whole (let e : l .i ≡ length (c .before .before .before .before .args .x .now) / 4 = omega arith in e) (l .inv .2)
+returns c = let l = c .before .loop in widened-whole (let e : l .i ≡ blockCount (c .before .before .before .before .args .x .now) = omega arith in e) (l .inv .2)
 
 pub widen-spec : {M : Type 1} → statement M
 widen-spec =

@@ -1,11 +1,12 @@
--- `common_back::back`: the last row first, then block by block from the last, each from the row at its end. Assumes nothing.
+-- `common_back::back`: the last row first, then block by block from the last, each from the row at its end. Assumes
+-- nothing.
 use mathlib.Core.Path.{_≡_, refl, sym, ap, _∙_}
-use Prim.Native.Nat.{ℕ, _+_, _-_, _/_, _≤_, _<_}
+use Prim.Native.Nat.{ℕ, _+_, _-_, _≤_, _<_}
 use native.Mathlib.Omega.{arith}
 use lib.ListN.{length}
 use lib.Seq.{length-take-le}
 use Rattle.sets.specs.Set.{setOf}
-use Rattle.shapes.specs.Shape.{Block}
+use Rattle.shapes.specs.Shape.{Block, blockCount}
 use Rattle.row_lay.proofs.Laid.{upper-within}
 use Rattle.rows.specs.Row.{tableSize}
 use Rattle.row_paths.proofs.Lent.{mine-at}
@@ -17,7 +18,7 @@ use Rattle.common_back.proofs.back.Tie as tie
 
 abbrev Inv-loop : tie.InvT-loop
 Inv-loop x y zones ends slots mines₀ rows₀ k m runs room words row₀ p₀ i₀ mines rows row p i =
-    (k ≡ length y / 4) × (i ≤ length x / 4) × (length mines ≡ length mines₀) × (length rows ≡ tableSize) × PassFrom x y i p mines rows (setOf row)
+    (k ≡ blockCount y) × (i ≤ blockCount x) × (length mines ≡ length mines₀) × (length rows ≡ tableSize) × PassFrom x y i p mines rows (setOf row)
 
 abbrev μ-loop : tie.MeasureT-loop
 μ-loop x y zones ends slots mines₀ rows₀ k m runs room words row₀ p₀ i₀ mines rows row p i = i
@@ -96,7 +97,7 @@ within c =
     let h = l .inv .1 in
     let u = ap (λ (b : Block). b .upper) (c .block-at .ensures .0) in
     let n : ℕ = l .i - 1 in
-    let in-shape : n < length (s .args .x .now) / 4 = omega arith in
+    let in-shape : n < blockCount (s .args .x .now) = omega arith in
     let end = upper-within (s .args .x .now) n in-shape in
     let short = s .pre .0 .short in
     let e = pass-place (s .args .x .now) n in-shape (let d : l .i ≡ n + 1 = omega arith in d) (l .inv .4) in

@@ -1,4 +1,5 @@
--- `common_blocks::back_block`: row by row from the block's end to its start, each kept where it belongs. Assumes nothing.
+-- `common_blocks::back_block`: row by row from the block's end to its start, each kept where it belongs. Assumes
+-- nothing.
 use mathlib.Core.Path.{_≡_, refl, _∙_}
 use Prim.Native.Nat.{_+_, _≤_}
 use native.Mathlib.Omega.{arith}

@@ -4,7 +4,7 @@ use borrow.Author.Needs.{needs}
 use lib.ListN.{length}
 use Rattle.pairs.specs.Pair.{PairAccepted}
 use Rattle.common_calls.specs.Common.{ShowRoom, ShowChecked}
-use Rattle.shapes.proofs.Lent.{accepted-whole, accepted-few}
+use Rattle.shapes.proofs.Lent.{accepted-whole}
 use Rattle.common_calls.proofs.Common.{shown}
 use Rattle.common_calls.proofs.common_text.Statement.{statement}
 use Rattle.common_calls.proofs.common_text.Tie as tie
@@ -32,7 +32,7 @@ clear-requires c κs = accepted (c .before) .1 .work
 earliest-requires : tie.Need-earliest-requires
 earliest-requires c κs =
     let ok = accepted (c .before .before .before .before .before) in
-    ((accepted-whole (ok .0 .first), accepted-whole (ok .0 .second)), ((accepted-few (ok .0 .first), accepted-few (ok .0 .second)), ok .1 .output))
+    ((accepted-whole (ok .0 .first), accepted-whole (ok .0 .second)), ((ok .0 .first .right .few, ok .0 .second .right .few), ok .1 .output))
 
 returns : tie.Need-returns
 returns c =

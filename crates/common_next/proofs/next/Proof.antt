@@ -1,19 +1,19 @@
 -- `common_next::next`: block after block, but for those that the text so far does not lead to. Assumes nothing.
 use mathlib.Core.Path.{_≡_, refl, sym, subst}
 use mathlib.Core.Logic.{⊎-elim}
-use Prim.Native.Nat.{_+_, _-_, _/_, _≤_}
+use Prim.Native.Nat.{_+_, _-_, _≤_}
 use native.Mathlib.Omega.{arith}
 use borrow.Author.Needs.{needs}
-use lib.ListN.{length}
 use Rattle.sets.specs.Set.{setOf}
 use Rattle.common_weighs.specs.declared.Chosen.{Chosen}
 use Rattle.common_weighs.specs.Code.{ChosenTo}
+use Rattle.shapes.specs.Shape.{blockCount}
 use Rattle.common_next.proofs.Blocks.{none-found, block-none, all-found}
 use Rattle.common_next.proofs.next.Statement.{statement}
 use Rattle.common_next.proofs.next.Tie as tie
 
 abbrev Inv-loop : tie.InvT-loop
-Inv-loop x y slots-x slots-y mines rows own other n near g₀ a₀ g a = (n ≡ length x / 4) × (a ≤ n) × ChosenTo x y a (setOf own) (setOf other) g
+Inv-loop x y slots-x slots-y mines rows own other n near g₀ a₀ g a = (n ≡ blockCount x) × (a ≤ n) × ChosenTo x y a (setOf own) (setOf other) g
 
 abbrev μ-loop : tie.MeasureT-loop
 μ-loop x y slots-x slots-y mines rows own other n near g₀ a₀ g a = n - a
@@ -67,7 +67,7 @@ returns c =
     let l = c .before .loop in
     let e = l .inv .0 in
     let t = c .loop-test .left in
-    all-found (s .args .x .now) (s .args .y .now) (setOf (s .args .own)) (setOf (s .args .other)) (let le : length (s .args .x .now) / 4 ≤ l .a = omega arith in le) (l .inv .2)
+    all-found (s .args .x .now) (s .args .y .now) (setOf (s .args .own)) (setOf (s .args .other)) (let le : blockCount (s .args .x .now) ≤ l .a = omega arith in le) (l .inv .2)
 
 pub next-spec : {M : Type 1} → statement M
 next-spec =

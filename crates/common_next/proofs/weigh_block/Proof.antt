@@ -1,4 +1,5 @@
--- `common_next::weigh_block`: its positions among those that the text so far leads to; nothing is found there if no character is at hand. Assumes nothing.
+-- `common_next::weigh_block`: its positions among those that the text so far leads to; nothing is found there if no
+-- character is at hand. Assumes nothing.
 use mathlib.Core.Path.{refl, ap, _∙_, subst}
 use Prim.Native.Nat.{ℕ, _^_, _<_}
 use native.Mathlib.Omega.{arith}

@@ -3,7 +3,7 @@ use mathlib.Core.Path.{refl}
 use native.Mathlib.Omega.{arith}
 use Rattle.sets.specs.Set.{setOf, Exactly}
 use Rattle.shapes.specs.Lent.{shapeOf}
-use Rattle.rests.specs.Walk.{slotAt}
+use Rattle.walks.specs.Walk.{slotAt}
 use Rattle.common_weighs.specs.Code.{SharedAt}
 use Rattle.common_weighs.proofs.Ends.{shared-row, sooner-no-row, sooner-none, sooner-found, sooner-kept}
 use borrow.Author.Needs.{needs}

@@ -10,7 +10,7 @@ use Rattle.bases.specs.Base.{Holds}
 use Rattle.sets.specs.Set.{setOf}
 use Rattle.shapes.specs.Shape.{total}
 use Rattle.shapes.specs.Lent.{shapeOf}
-use Rattle.rests.specs.Walk.{slotAt}
+use Rattle.walks.specs.Walk.{slotAt}
 use Rattle.common_weighs.specs.Next.{MayCome}
 use Rattle.common_writes.proofs.Part.{rest-long, laid-long}
 use Rattle.common_writes.proofs.Remains.{stands-after, meeting-after, some-left, less-left, again, wrote-end, next-char, wrote-next, wrote-short}

@@ -1,5 +1,5 @@
 -- `common_writes::may_end`: one test after the other. Assumes nothing.
-use Rattle.bases.proofs.Tells.{tells-false}
+use Rattle.plain.proofs.Tells.{tells-false}
 use borrow.Author.Needs.{needs}
 use Rattle.common_writes.proofs.may_end.Statement.{statement}
 use Rattle.common_writes.proofs.may_end.Tie as tie

@@ -1,4 +1,5 @@
--- `equal_back::at_end`: X waits at its end; what leads on from there, and what Y takes, is its tail of padding. Assumes nothing.
+-- `equal_back::at_end`: X waits at its end; what leads on from there, and what Y takes, is its tail of padding. Assumes
+-- nothing.
 use Rattle.sets.specs.Set.{setOf}
 use Rattle.row_paths.proofs.Chars.{taken-last, gathered-last}
 use borrow.Author.Needs.{needs}

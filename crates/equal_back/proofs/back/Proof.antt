@@ -1,14 +1,15 @@
--- `equal_back::back`: block by block from the last, each begun with nothing used; what it has used gives the characters of both sides. Assumes nothing.
+-- `equal_back::back`: block by block from the last, each begun with nothing used; what it has used gives the characters
+-- of both sides. Assumes nothing.
 use mathlib.Core.Path.{_≡_, refl, sym, subst, ap, _∙_}
-use Prim.Native.Nat.{ℕ, _+_, _-_, _/_, _≤_, _<_}
+use Prim.Native.Nat.{ℕ, _+_, _-_, _≤_, _<_}
 use native.Mathlib.Omega.{arith}
 use lib.ListN.{length}
 use lib.Seq.{length-take-le}
 use Rattle.sets.specs.Set.{setOf}
-use Rattle.shapes.specs.Shape.{Block, total}
+use Rattle.shapes.specs.Shape.{Block, total, blockCount}
 use Rattle.shapes.specs.Lent.{shapeOf}
 use Rattle.row_lay.proofs.Laid.{upper-within}
-use Rattle.rows.specs.Row.{rowIn}
+use Rattle.rows.specs.Row.{rowIn, rowCount}
 use Rattle.rows.specs.Steps.{InTurn}
 use Rattle.row_paths.proofs.Lent.{in-turn-of}
 use Rattle.equal_back.specs.Back.{PassFrom}
@@ -19,7 +20,7 @@ use Rattle.equal_back.proofs.back.Tie as tie
 
 abbrev Inv-loop : tie.InvT-loop
 Inv-loop x y zones ends slots pad mines rows own₀ others₀ k runs room words m p₀ g₀ moved₀ i₀ own others p g moved i =
-    (k ≡ length y / 4) × (i ≤ length x / 4) × (length own ≡ length own₀) × (length others ≡ length others₀) × PassFrom (setOf pad) x y i p g (setOf moved) own others
+    (k ≡ blockCount y) × (i ≤ blockCount x) × (length own ≡ length own₀) × (length others ≡ length others₀) × PassFrom (setOf pad) x y i p g (setOf moved) own others
 
 abbrev μ-loop : tie.MeasureT-loop
 μ-loop x y zones ends slots pad mines rows own₀ others₀ k runs room words m p₀ g₀ moved₀ i₀ own others p g moved i = i
@@ -77,14 +78,14 @@ abbrev start : tie.After-block-at Inv-loop μ-loop → tie.Start Inv-loop μ-loo
 start c = c .before .before .before .before .before .before .before .before .before .before .before .before .before .before .before .before .before .before .before .before .before .before .before .before
 
 -- the block starts within the shape, and ends where the one after it starts
-within : (c : tie.After-block-at Inv-loop μ-loop) → (c .block-at .result .upper ≤ c .before .before .loop .p) × (c .before .before .loop .p ≤ 250) × (c .before .before .loop .p ≤ length (start c .args .rows .now) / 4)
+within : (c : tie.After-block-at Inv-loop μ-loop) → (c .block-at .result .upper ≤ c .before .before .loop .p) × (c .before .before .loop .p ≤ 250) × (c .before .before .loop .p ≤ rowCount (start c .args .rows .now))
 within c =
     let l = c .before .before .loop in
     let s = start c in
     let h = l .inv .1 in
     let u = ap (λ (b : Block). b .upper) (c .block-at .ensures .0) in
     let n : ℕ = l .i - 1 in
-    let in-shape : n < length (s .args .x .now) / 4 = omega arith in
+    let in-shape : n < blockCount (s .args .x .now) = omega arith in
     let end = upper-within (s .args .x .now) n in-shape in
     let short = s .pre .0 .0 .short in
     let e = pass-place (s .args .x .now) n in-shape (let d : l .i ≡ n + 1 = omega arith in d) (l .inv .4) in

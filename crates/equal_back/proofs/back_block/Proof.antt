@@ -1,5 +1,4 @@
 -- `equal_back::back_block`: sets of one word are those words. Assumes nothing.
-use native.Mathlib.Omega.{arith}
 use Rattle.forth_rows.proofs.Rows.{together-as}
 use Rattle.back_rows.proofs.Words.{block-as}
 use borrow.Author.Needs.{needs}

@@ -1,13 +1,13 @@
 -- `equal_forth::forth`: block by block, what the last block leaves enters the next. Assumes nothing.
 use mathlib.Core.Path.{_≡_, sym, subst, ap, _∙_}
-use Prim.Native.Nat.{_+_, _-_, _/_, _≤_}
+use Prim.Native.Nat.{_+_, _-_, _≤_}
 use native.Mathlib.Omega.{arith}
 use lib.ListN.{length}
 use Rattle.sets.specs.Set.{setOf}
-use Rattle.shapes.specs.Shape.{Block}
+use Rattle.shapes.specs.Shape.{Block, blockCount}
 use Rattle.row_lay.proofs.Laid.{upper-within, total-all}
 use Rattle.equal_forth.specs.Forth.{PassTo}
-use Rattle.rows.specs.Row.{rowIn}
+use Rattle.rows.specs.Row.{rowIn, rowCount}
 use Rattle.rows.specs.Steps.{InTurn}
 use Rattle.row_paths.proofs.Lent.{mine-at, in-turn-of, padded-zones-at, shares-at}
 use Rattle.equal_forth.proofs.Pass.{pass-none, pass-more, pass-all}
@@ -17,7 +17,7 @@ use Rattle.equal_forth.proofs.forth.Tie as tie
 
 abbrev Inv-loop : tie.InvT-loop
 Inv-loop x y zones ends slots pad mines₀ rows₀ n k m runs s₀ p₀ i₀ mines rows s p i =
-    (n ≡ length x / 4) × (k ≡ length y / 4) × (i ≤ n) × (length mines ≡ length mines₀) × (length rows ≡ length rows₀) × PassTo (setOf pad) x y i p mines rows (setOf s)
+    (n ≡ blockCount x) × (k ≡ blockCount y) × (i ≤ n) × (length mines ≡ length mines₀) × (length rows ≡ length rows₀) × PassTo (setOf pad) x y i p mines rows (setOf s)
 
 abbrev μ-loop : tie.MeasureT-loop
 μ-loop x y zones ends slots pad mines₀ rows₀ n k m runs s₀ p₀ i₀ mines rows s p i = n - i
@@ -47,7 +47,7 @@ put-row-requires : tie.Need-put-row-requires Inv-loop μ-loop
 put-row-requires c κs = let l = c .before .before .before .before .loop in let room = c .before .before .before .before .before .before .before .before .before .before .before .before .before .before .before .pre .1 .1 .1 .0 in let long = l .inv .3 in let n = l .inv .0 in omega arith
 
 -- the block ends within the shape
-within : (c : tie.After-block-at Inv-loop μ-loop) → (c .before .before .loop .p + c .block-at .result .upper ≤ 250) × (c .before .before .loop .p + c .block-at .result .upper ≤ length (c .before .before .loop .rows) / 4)
+within : (c : tie.After-block-at Inv-loop μ-loop) → (c .before .before .loop .p + c .block-at .result .upper ≤ 250) × (c .before .before .loop .p + c .block-at .result .upper ≤ rowCount (c .before .before .loop .rows))
 within c =
     let l = c .before .before .loop in
     let s = c .before .before .before .before .before .before .before .before .before .before .before .before .before in

@@ -3,6 +3,7 @@ use mathlib.Core.Path.{refl}
 use native.Mathlib.Omega.{arith}
 use Rattle.equal_rows.proofs.Equal.{blank-long}
 use borrow.Author.Needs.{needs}
+use Rattle.rows.specs.Row.{layoutSize}
 use Rattle.equal_rooms.proofs.narrow_big.Statement.{statement}
 use Rattle.equal_rooms.proofs.narrow_big.Tie as tie
 
@@ -33,7 +34,7 @@ narrow-rows-requires c κs =
       s .0,
       (
         record { zones-long = search needs; ends-long = search needs; slots-long = search needs; mines-long = search needs; rows-long = let short = s .0 .0 .short in omega arith; own-long = search needs; others-long = search needs },
-        (s .1 .1, blank-long 128 refl),
+        (s .1 .1, blank-long layoutSize refl),
       ),
     )
 

@@ -4,6 +4,12 @@ use borrow.Author.Needs.{needs}
 use Rattle.equal_rooms.proofs.narrow_but.Statement.{statement}
 use Rattle.equal_rooms.proofs.narrow_but.Tie as tie
 
+mul-if1 : tie.Need-mul-if1
+mul-if1 c = search needs
+
+mul-if2 : tie.Need-mul-if2
+mul-if2 c = search needs
+
 total-upper-requires : tie.Need-total-upper-requires
 total-upper-requires c κs = search needs
 
@@ -38,6 +44,8 @@ pub narrow-but-spec : {M : Type 1} → statement M
 narrow-but-spec =
     tie.close
     (tie.spec
+    mul-if1
+    mul-if2
     total-upper-requires
     narrow-small-requires
     same-length

@@ -1,6 +1,5 @@
 -- `equal_rooms::narrow_small`: there is room for the rows of 8 blocks. Assumes nothing.
 use mathlib.Core.Path.{refl}
-use native.Mathlib.Omega.{arith}
 use Rattle.equal_rows.proofs.Equal.{blank-long}
 use borrow.Author.Needs.{needs}
 use Rattle.equal_rooms.proofs.narrow_small.Statement.{statement}

@@ -1,7 +1,7 @@
 -- `equal_steps::lands_word`: only where the run may end. Assumes nothing.
 use mathlib.Core.Path.{sym, _∙_}
 use mathlib.Core.Bool.{true≢false}
-use Rattle.bases.proofs.Tells.{tells-false}
+use Rattle.plain.proofs.Tells.{tells-false}
 use borrow.Author.Needs.{needs}
 use Rattle.equal_steps.proofs.lands_word.Statement.{statement}
 use Rattle.equal_steps.proofs.lands_word.Tie as tie

@@ -1,4 +1,5 @@
--- `equals::narrow_padded`: with the blank as padding they are equal but for it exactly if they are once trailing blanks are dropped. Assumes nothing.
+-- `equals::narrow_padded`: with the blank as padding they are equal but for it exactly if they are once trailing blanks
+-- are dropped. Assumes nothing.
 use Rattle.equal_rows.proofs.Equal.{but-for-blanks}
 use borrow.Author.Needs.{needs}
 use Rattle.equals.proofs.narrow_padded.Statement.{statement}

@@ -1,5 +1,5 @@
--- `extreme_steps::count_of`: by whether the character goes first, as the definition. Written out, so that a wrong count is
--- refused here and not at its caller. Assumes nothing.
+-- `extreme_steps::count_of`: by whether the character goes first, as the definition. Written out, so that a wrong count
+-- is refused here and not at its caller. Assumes nothing.
 use borrow.Author.Needs.{needs}
 use Rattle.extreme_steps.proofs.count_of.Statement.{statement}
 use Rattle.extreme_steps.proofs.count_of.Tie as tie

@@ -6,7 +6,7 @@ use borrow.Author.Needs.{needs}
 use lib.ListN.{length, drop}
 use Rattle.shapes.specs.Shape.{blockCount}
 use Rattle.shapes.specs.Lent.{shapeOf}
-use Rattle.shapes.proofs.All.{all-of}
+use Rattle.plain.proofs.All.{all-of}
 use Rattle.shapes.proofs.Lent.{small-bases}
 use Rattle.extreme_steps.specs.Steps.{successor}
 use Rattle.extreme_steps.specs.Code.{codesBelow, textFrom}

@@ -5,10 +5,10 @@ use Prim.Native.Nat.{ℕ, _+_, _-_, _≤_}
 use native.Mathlib.Omega.{arith}
 use borrow.Author.Needs.{needs}
 use lib.ListN.{length, take, drop}
-use Rattle.shapes.specs.All.{All}
+use Rattle.plain.specs.All.{All}
 use Rattle.shapes.specs.Shape.{Small, blockCount}
 use Rattle.shapes.specs.Lent.{shapeOf}
-use Rattle.shapes.proofs.All.{all-of}
+use Rattle.plain.proofs.All.{all-of}
 use Rattle.shapes.proofs.Lent.{small-bases}
 use Rattle.extreme_steps.specs.Steps.{successor, extreme}
 use Rattle.extreme_steps.specs.Code.{codesBelow, runOf, textFrom}

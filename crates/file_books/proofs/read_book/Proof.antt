@@ -1,85 +1,89 @@
--- `file_books::read_book`: the size first, then the sections in their order. Assumes nothing.
-use mathlib.Core.Path.{_≡_, refl, sym, _∙_, subst}
+-- `file_books::read_book`: the size first, then the sheet and the rules. Assumes nothing.
+use mathlib.Core.Path.{_≡_, refl, subst}
 use mathlib.Core.List.{List}
-use Prim.Native.Nat.{ℕ, _+_}
+use Prim.Native.Nat.{ℕ, _≤_}
 use native.Mathlib.Omega.{arith}
+use lib.ListN.{drop}
 use Rattle.file_lines.proofs.Read.{rest-of}
-use Rattle.file_sections.specs.declared.Section.the-variants.{Read}
-use Rattle.file_sections.specs.Steps.{DepartsFrom}
-use Rattle.file_sections.specs.Steps.State.{counts}
-use Rattle.file_sections.proofs.Steps.{counts-kind}
-use Rattle.file_sections.proofs.Sections.{texts-head, after-section}
-use Rattle.files.specs.Departs.{Departs}
-use Rattle.files.specs.Departs.FileRefused.{large, departs}
-use Rattle.file_tails.specs.Parts.{TextsSeen, TailRead}
-use Rattle.files.proofs.Book.{departs-of}
-use Rattle.file_tails.proofs.Seen.{texts-seen}
-use Rattle.file_books.proofs.Whole.{book-is}
+use Rattle.answers.specs.Turns.{here, later}
+use Rattle.answers.proofs.Turns.{lacks}
+use Rattle.file_sheets.specs.Sheet.{SheetIs, SheetRead}
+use Rattle.file_sheets.proofs.Whole.{sheet-few}
+use Rattle.rules.specs.Limits.{mostTexts, bookBlocks}
+use Rattle.file_books.specs.declared.Last.{Last}
+use Rattle.file_books.specs.Last.{lastGrammar, LastRead}
+use Rattle.file_books.proofs.Whole.{book-stops, book-is}
 use borrow.Author.Needs.{needs}
 use Rattle.file_books.proofs.read_book.Statement.{statement}
 use Rattle.file_books.proofs.read_book.Tie as tie
 
 returns : tie.Need-returns
-returns c = large (c .if1 .taken) refl
+returns c = here (lacks (λ h. let t = c .if1 .taken in omega arith))
 
-slice-aggregate-read-section : tie.Need-slice-aggregate-read-section
-slice-aggregate-read-section c = search needs
-
-read-section-requires : tie.Need-read-section-requires
-read-section-requires c κs = search needs
-
--- what the section is
-seen : (c : tie.After-read-section) → let a = c .before .before .before .before .before .before .before .before .args in TextsSeen (a .file .now) (a .counts .now) (c .read-section .last .1 .1 .1 .1 .0) (c .read-section .result)
-seen c = let s = c .before .before .before .before .before .before .before .before in texts-seen (s .args .file .now) (s .args .counts .now) _ (c .read-section .kept .1 .1 .1 .1 .0) (c .read-section .result) (s .pre .0) (c .read-section .ensures)
+read-sheet-requires : tie.Need-read-sheet-requires
+read-sheet-requires c κs = search needs
 
 enum-known-i : tie.Need-enum-known-i
 enum-known-i c = search needs
 
-add-t22 : tie.Need-add-t22
-add-t22 c = let d = subst (TextsSeen _ _ _) (c .before .i .given .1) (seen (c .before .before .before .before .before)) .1 in omega arith
+add-t20 : tie.Need-add-t20
+add-t20 c = let d = subst (SheetRead mostTexts _ _ _ _ _) (c .before .i .given .1) (c .before .before .before .before .before .before .before .read-sheet .ensures) .1 in omega arith
 
-enum-known-n : tie.Need-enum-known-n
-enum-known-n c = search needs
+enum-known-texts : tie.Need-enum-known-texts
+enum-known-texts c = search needs
 
--- where it is read
-section : (c : tie.After-n) → let a = c .before .before .before .before .before .before .before .before .before .before .before .before .args in
-    TextsSeen (a .file .now) (a .counts .now) (c .before .before .before .before .read-section .last .1 .1 .1 .1 .0) (Read (c .n .given .0 .0) (c .n .given .0 .1 .0))
-section c = subst (TextsSeen _ _ _) (c .n .given .1) (seen (c .before .before .before .before))
+-- the sheet, where it is read, and how large it is
+sheet : (c : tie.After-texts) → let a = c .before .before .before .before .before .before .before .before .before .before .before .before .before .before .args in let r = c .before .before .before .before .before .before .read-sheet in let g = c .texts .given .0 in
+    SheetIs mostTexts (a .file .now) (a .counts .now) (a .blocks .now) (r .last .1 .1 .0) (r .last .1 .1 .1 .0) (g .0) (g .1 .0) (g .1 .1 .0)
+sheet c = subst (SheetRead mostTexts _ _ _ _ _) (c .texts .given .1) (c .before .before .before .before .before .before .read-sheet .ensures)
 
-sub-read-tail : tie.Need-sub-read-tail
-sub-read-tail c = section (c .before) .0 .within
+few : (c : tie.After-texts) → (c .texts .given .0 .0 ≤ mostTexts) × (c .texts .given .0 .1 .0 ≤ bookBlocks)
+few c = let s = sheet c in let f = sheet-few (s .sheet) (s .fits) in let t = f .0 in let b = f .1 in let x = s .texts-many in let y = s .blocks-many in (omega arith, omega arith)
 
-part-read-tail-start : tie.Need-part-read-tail-start
-part-read-tail-start c = section (c .before) .0 .within
+sub-read-last : tie.Need-sub-read-last
+sub-read-last c = sheet (c .before) .within
 
-part-read-tail-end : tie.Need-part-read-tail-end
-part-read-tail-end c = search needs
+part-read-last-start : tie.Need-part-read-last-start
+part-read-last-start c = sheet (c .before) .within
 
-read-tail-requires : tie.Need-read-tail-requires
-read-tail-requires c κs = search needs
+part-read-last-end : tie.Need-part-read-last-end
+part-read-last-end c = search needs
+
+read-last-requires : tie.Need-read-last-requires
+read-last-requires c κs = search needs
+
+-- and what follows it
+last : (c : tie.After-read-last) {r : Last} → c .read-last .result ≡ r → let a = c .before .before .before .before .before .before .before .before .before .before .before .before .before .before .before .before .before .before .args in
+    LastRead (drop (c .before .before .before .before .texts .given .0 .1 .1 .0) (a .file .now)) (a .rules .now) (c .read-last .last .1 .0) r
+last c {r} e =
+    let a = c .before .before .before .before .before .before .before .before .before .before .before .before .before .before .before .before .before .before .args in
+    subst (λ (t : List ℕ). LastRead t (a .rules .now) (c .read-last .last .1 .0) r) (rest-of (a .file .now) (c .before .before .before .before .texts .given .0 .1 .1 .0)) (subst (LastRead _ _ _) e (c .read-last .ensures))
 
 enum-known-i-2 : tie.Need-enum-known-i-2
 enum-known-i-2 c = search needs
 
-add-t35 : tie.Need-add-t35
-add-t35 c = let few = section (c .before .before .before .before .before .before .before .before .before .before .before .before) .0 .items .few in let d = subst (TailRead _ _ _ _ _) (c .before .i2 .given .1) (c .before .before .before .before .before .before .before .read-tail .ensures) .1 in omega arith
+add-t30 : tie.Need-add-t30
+add-t30 c = let f = few (c .before .before .before .before .before .before .before .before .before) in let t = f .0 in let n = f .1 in omega arith
 
-add-t36 : tie.Need-add-t36
-add-t36 c = let few = section (c .before .before .before .before .before .before .before .before .before .before .before .before) .0 .items .few in let d = subst (TailRead _ _ _ _ _) (c .before .i2 .given .1) (c .before .before .before .before .before .before .before .read-tail .ensures) .1 in omega arith
+add-t32 : tie.Need-add-t32
+add-t32 c = let f = few (c .before .before .before .before .before .before .before .before .before) in let t = f .0 in let n = f .1 in let d = last (c .before .before .before .before .before) (c .before .i2 .given .1) .1 in omega arith
 
-enum-known-b : tie.Need-enum-known-b
-enum-known-b c = search needs
+add-t33 : tie.Need-add-t33
+add-t33 c = let f = few (c .before .before .before .before .before .before .before .before .before) in let t = f .0 in let n = f .1 in let d = last (c .before .before .before .before .before) (c .before .i2 .given .1) .1 in omega arith
+
+enum-known-k : tie.Need-enum-known-k
+enum-known-k c = search needs
 
 same-length : tie.Need-same-length
 same-length c = search needs
 
-returns-2 : tie.Need-returns-2
-returns-2 c =
-    let d = subst (TextsSeen _ _ _) (c .before .i .given .1) (seen (c .before .before .before .before .before)) in
-    departs _ (c .before .before .before .before .before .before .before .before .if1 .left) (departs-of (c .before .before .before .before .before .before .before .before .before .before .before .before .before .args .file .now) (c .before .i .given .0 .0) (d .0)) refl
-
 same-length-2 : tie.Need-same-length-2
 same-length-2 c = search needs
+
+returns-2 : tie.Need-returns-2
+returns-2 c =
+    let d = subst (SheetRead mostTexts _ _ _ _ _) (c .before .i .given .1) (c .before .before .before .before .before .before .before .read-sheet .ensures) in
+    later (c .before .before .before .before .before .before .before .before .before .before .if1 .left) (here (_, d .0 lastGrammar, refl))
 
 same-length-3 : tie.Need-same-length-3
 same-length-3 c = search needs
@@ -87,20 +91,13 @@ same-length-3 c = search needs
 same-length-4 : tie.Need-same-length-4
 same-length-4 c = search needs
 
-returns-3 : tie.Need-returns-3
-returns-3 c =
-    let at = c .before .before .before .before .before .before .before .before .before .before .before .before in
-    let s = section at in
-    let file = c .before .before .before .before .before .before .before .before .before .before .before .before .before .before .before .before .before .before .before .before .before .before .before .before .args .file .now in
-    let n = at .n .given .0 in
-    let i = c .before .i2 .given .0 .0 in
-    let d = subst (TailRead _ _ _ _ _) (c .before .i2 .given .1) (c .before .before .before .before .before .before .before .read-tail .ensures) in
-    let from = after-section texts-head counts-kind file _ (n .0) (n .1 .0) i (s .0) (subst (λ (t : List ℕ). DepartsFrom (counts 0) t i) (rest-of file (n .1 .0)) (d .0)) in
-    let line : n .0 + i + 1 + 1 ≡ n .0 + i + 2 = omega arith in
-    departs _ (c .before .before .before .before .before .before .before .before .before .before .before .before .before .before .before .before .before .before .before .if1 .left) (subst (Departs file) line (departs-of file (n .0 + i + 1) from)) refl
-
 same-length-5 : tie.Need-same-length-5
 same-length-5 c = search needs
+
+returns-3 : tie.Need-returns-3
+returns-3 c =
+    let d = last (c .before .before .before .before .before) (c .before .i2 .given .1) in
+    later (c .before .before .before .before .before .before .before .before .before .before .before .before .before .before .before .before .before .before .if1 .left) (here (_, book-stops (c .before .before .before .before .before .before .before .before .before .before .before .before .before .before .before .before .before .before .before .before .before .before .before .args .file .now) _ _ _ _ _ _ _ (sheet (c .before .before .before .before .before .before .before .before .before)) (c .before .i2 .given .0 .0) (d .0), refl))
 
 same-length-6 : tie.Need-same-length-6
 same-length-6 c = search needs
@@ -108,48 +105,38 @@ same-length-6 c = search needs
 same-length-7 : tie.Need-same-length-7
 same-length-7 c = search needs
 
+same-length-8 : tie.Need-same-length-8
+same-length-8 c = search needs
+
 returns-4 : tie.Need-returns-4
-returns-4 c =
-    let at = c .before .before .before .before .before .before .before .before .before .before .before .before in
-    let s = section at in
-    let file = c .before .before .before .before .before .before .before .before .before .before .before .before .before .before .before .before .before .before .before .before .before .before .before .before .args .file .now in
-    let m = at .n .given .0 .1 .0 in
-    let l = subst (TailRead _ _ _ _ _) (c .before .b .given .1) (c .before .before .before .before .before .before .before .read-tail .ensures) in
-    record {
-      accepted = book-is file _ _ _ _ _ _ m (s .0) (l .blocks-are) (l .rules-are) (sym (rest-of file m) ∙ l .whole) (c .before .before .before .before .before .before .before .before .before .before .before .before .before .before .before .before .before .before .before .if1 .left);
-      texts = s .0 .items .count;
-      blocks = l .blocks-are .count;
-      rules = l .rules-are .count;
-      counts-stay = s .1;
-      blocks-stay = l .blocks-stay;
-      rules-stay = l .rules-stay;
-    }
+returns-4 c = book-is (c .before .before .before .before .before .before .before .before .before .before .before .before .before .before .before .before .before .before .before .before .before .before .before .args .file .now) _ _ _ _ _ _ _ (sheet (c .before .before .before .before .before .before .before .before .before)) _ _ _ (c .before .before .before .before .before .before .before .before .before .before .before .before .before .before .before .before .before .before .if1 .left) (last (c .before .before .before .before .before) (c .before .k .given .1))
 
 pub read-book-spec : {M : Type 1} → statement M
 read-book-spec =
     tie.close
     (tie.spec
     returns
-    slice-aggregate-read-section
-    read-section-requires
+    read-sheet-requires
     enum-known-i
-    add-t22
-    enum-known-n
-    sub-read-tail
-    part-read-tail-start
-    part-read-tail-end
-    read-tail-requires
+    add-t20
+    enum-known-texts
+    sub-read-last
+    part-read-last-start
+    part-read-last-end
+    read-last-requires
     enum-known-i-2
-    add-t35
-    add-t36
-    enum-known-b
+    add-t30
+    add-t32
+    add-t33
+    enum-known-k
     same-length
-    returns-2
     same-length-2
+    returns-2
     same-length-3
     same-length-4
-    returns-3
     same-length-5
+    returns-3
     same-length-6
     same-length-7
+    same-length-8
     returns-4)

@@ -1,11 +1,10 @@
--- `file_calls::report_book`: where there is room for the report, the run of the book and the report of its answer; elsewhere the refusal. Assumes nothing.
+-- `file_calls::report_book`: where there is room for the report, the run of the book and the report of its answer;
+-- elsewhere the refusal. Assumes nothing.
 use mathlib.Core.Path.{_≡_, refl, subst}
-use Prim.Native.Nat.{ℕ, _^_, _<_}
 use native.Mathlib.Omega.{arith}
-use Rattle.shapes.specs.All.{All}
-use Rattle.shapes.proofs.All.{all-of}
+use Rattle.plain.proofs.All.{all-of}
 use Rattle.answers.specs.declared.Ran.{Ran}
-use Rattle.file_runs.specs.Promise.ReportRefused.{wrong}
+use Rattle.answers.specs.Turns.{here}
 use Rattle.file_runs.proofs.Ends.{ComesTo, comes-to, few-numbers}
 use borrow.Author.Needs.{needs}
 use Rattle.file_calls.proofs.report_book.Statement.{statement}
@@ -18,7 +17,7 @@ same-length : tie.Need-same-length
 same-length c = search needs
 
 returns : tie.Need-returns
-returns c = ((c .refuse-short .ensures, refl), (refl, all-of _ 0 (λ i h. c .before .before .before .before .before .before .slice-known .given i .fits)))
+returns c = ((c .refuse-short .ensures, refl), refl)
 
 run-book-requires : tie.Need-run-book-requires
 run-book-requires c κs = search needs
@@ -35,14 +34,10 @@ write-none-requires c κs = search needs
 enum-known-m-2 : tie.Need-enum-known-m-2
 enum-known-m-2 c = search needs
 
--- ---- what is known behind the run: what it comes to, and that the blocks were 64-bit numbers
-
+-- what the run comes to
 came-to : (c : tie.After-run-book) {r : Ran} → c .run-book .result ≡ r
     → let a = c .before .before .before .before .before .before .before .before .before .args in ComesTo (a .counts .now) (a .blocks .now) (a .rules .now) (a .work .now) (c .run-book .last .1 .0) (c .run-book .last .1 .1 .1 .0) r
 came-to c e = subst (ComesTo _ _ _ _ _ _) e (comes-to _ _ _ _ _ _ (c .run-book .result) (c .run-book .ensures))
-
-entered : (c : tie.After-run-book) → let a = c .before .before .before .before .before .before .before .before .before .args in All (λ (x : ℕ). x < 2 ^ 64) (a .blocks .now)
-entered c = all-of _ 0 (λ i h. c .before .before .before .before .before .before .before .slice-known .given i .fits)
 
 -- the final shapes can be written
 write-stable-requires : tie.Need-write-stable-requires
@@ -64,7 +59,7 @@ returns-2 : tie.Need-returns-2
 returns-2 c =
     let q = c .before .before .before .before .before .before .before in
     let p = came-to q (c .before .r .given .1) in
-    ((wrong (p .0), refl), (p .1, entered q))
+    ((here (p .0), refl), p .1)
 
 same-length-4 : tie.Need-same-length-4
 same-length-4 c = search needs
@@ -80,7 +75,7 @@ returns-3 c =
     let q = c .before .before .before .before .before .before .before .before .before .before .before in
     let p = came-to q (c .before .before .before .before .before .m .given .1) in
     let reported = c .before .before .write-none .ensures in
-    (record { accepted = p .0; room = q .before .before .before .if1 .left; report = record { verdict = _; due = p .1; reported = reported } }, (p .2, entered q))
+    (record { accepted = p .0; room = q .before .before .before .if1 .left; report = record { verdict = _; due = p .1; reported = reported } }, p .2)
 
 same-length-7 : tie.Need-same-length-7
 same-length-7 c = search needs
@@ -96,7 +91,7 @@ returns-4 c =
     let q = c .before .before .before .before .before .before .before .before .before .before .before .before in
     let p = came-to q (c .before .before .before .before .before .before .m2 .given .1) in
     let reported = c .before .before .write-stable .ensures in
-    (record { accepted = p .0; room = q .before .before .before .if1 .left; report = record { verdict = _; due = p .1; reported = reported } }, (p .2, entered q))
+    (record { accepted = p .0; room = q .before .before .before .if1 .left; report = record { verdict = _; due = p .1; reported = reported } }, p .2)
 
 pub report-book-spec : {M : Type 1} → statement M
 report-book-spec =

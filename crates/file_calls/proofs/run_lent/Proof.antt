@@ -2,7 +2,7 @@
 use mathlib.Core.Path.{refl, sym, subst}
 use native.Mathlib.Omega.{arith}
 use lib.Seq.{length-take-le}
-use Rattle.file_runs.specs.Promise.RunRefused.{no-book}
+use Rattle.answers.specs.Turns.{here}
 use Rattle.file_runs.proofs.Ends.{file-of}
 use Rattle.file_books.specs.Promise.{ReadPromise}
 use Rattle.file_books.proofs.Ready.{Ready, ready}
@@ -28,33 +28,34 @@ enum-known-r c = search needs
 enum-known-sizes : tie.Need-enum-known-sizes
 enum-known-sizes c = search needs
 
--- in the arm of a book: how many numbers of each are the book's
-sizes-ready : (c : tie.After-sizes)
-    → let l = c .before .before .before .before .before .read-book .last .1 in Ready (l .0) (l .1 .0) (l .1 .1 .0) (c .sizes .given .0 .0)
-sizes-ready c =
-    let read = c .before .before .before .before .before .read-book in
-    ready _ _ _ _ _ _ _ _ (subst (ReadPromise _ _ _ _ _ _ _) (c .sizes .given .1) (read .ensures))
+-- in the arm of a book: what was lent, and what was read
+abbrev lent : tie.After-sizes → tie.Start
+lent c = c .before .before .before .before .before .before .before .before .before .before .before .before
+
+book-read : (c : tie.After-sizes) → let l = c .before .before .before .before .before .read-book .last in
+    Ready (lent c .args .file .now) (l .1 .0) (l .1 .1 .0) (l .1 .1 .1 .0) (c .sizes .given .0 .0)
+book-read c = ready (subst (ReadPromise _ _ _ _ _ _ _) (c .sizes .given .1) (c .before .before .before .before .before .read-book .ensures))
 
 mul-numbers : tie.Need-mul-numbers
-mul-numbers c = let few = sizes-ready (c .before .before) .few-blocks in omega arith
+mul-numbers c = let few = book-read (c .before .before) .few .blocks in omega arith
 
 mul-rule-numbers : tie.Need-mul-rule-numbers
-mul-rule-numbers c = let few = sizes-ready (c .before .before .before) .few-rules in omega arith
+mul-rule-numbers c = let few = book-read (c .before .before .before) .few .rules in omega arith
 
 array-share-prefix-counts : tie.Need-array-share-prefix-counts
-array-share-prefix-counts c = let h = sizes-ready (c .before .before .before) .texts in omega arith
+array-share-prefix-counts c = let h = book-read (c .before .before .before) .counts-room in omega arith
 
 slice-aggregate-report-book : tie.Need-slice-aggregate-report-book
 slice-aggregate-report-book c = sym (length-take-le _ _ (array-share-prefix-counts (c .before)))
 
 array-borrow-prefix-blocks : tie.Need-array-borrow-prefix-blocks
-array-borrow-prefix-blocks c = let h = sizes-ready (c .before .before .before .before) .blocks in omega arith
+array-borrow-prefix-blocks c = let h = book-read (c .before .before .before .before) .blocks-room in omega arith
 
 slice-aggregate-report-book-2 : tie.Need-slice-aggregate-report-book-2
 slice-aggregate-report-book-2 c = sym (length-take-le _ _ (array-borrow-prefix-blocks (c .before)))
 
 array-share-prefix-rules : tie.Need-array-share-prefix-rules
-array-share-prefix-rules c = let h = sizes-ready (c .before .before .before .before .before) .rules in omega arith
+array-share-prefix-rules c = let h = book-read (c .before .before .before .before .before) .rules-room in omega arith
 
 slice-aggregate-report-book-3 : tie.Need-slice-aggregate-report-book-3
 slice-aggregate-report-book-3 c = sym (length-take-le _ _ (array-share-prefix-rules (c .before)))
@@ -65,7 +66,7 @@ report-book-requires c κs = search needs
 returns : tie.Need-returns
 returns c =
     let read = c .before .before .before .before .before .before .read-book in
-    ((no-book (subst (ReadPromise _ _ _ _ _ _ _) (c .before .r .given .1) (read .ensures)), refl), refl)
+    ((here (subst (ReadPromise _ _ _ _ _ _ _) (c .before .r .given .1) (read .ensures)), refl), refl)
 
 same-length : tie.Need-same-length
 same-length c = search needs
@@ -76,10 +77,8 @@ same-length-2 c = search needs
 returns-2 : tie.Need-returns-2
 returns-2 c =
     let sizes = c .before .before .before .before .before .before .before .before .before .before .before .before .before .before in
-    let read = subst (ReadPromise _ _ _ _ _ _ _) (sizes .sizes .given .1) (sizes .before .before .before .before .before .read-book .ensures) in
     let ran = c .before .before .before .before .before .report-book in
-    let report = sizes .before .before .before .before .before .before .before .before .before .before .before .before .args .report .now in
-    (file-of _ _ _ _ _ _ _ _ report (ran .last .1 .1 .1 .0) _ (ran .result) read (ran .ensures .1 .1) (ran .ensures .0), ran .ensures .1 .0)
+    (file-of _ _ _ _ _ (lent sizes .args .report .now) (ran .last .1 .1 .1 .0) _ (ran .result) (book-read sizes) (ran .ensures .0), ran .ensures .1)
 
 pub run-lent-spec : {M : Type 1} → statement M
 run-lent-spec =

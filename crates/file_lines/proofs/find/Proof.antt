@@ -3,7 +3,7 @@ use mathlib.Core.Path.{_≡_, refl}
 use Prim.Native.Nat.{_-_, _≤_}
 use native.Mathlib.Omega.{arith}
 use lib.ListN.{length, take}
-use Rattle.shapes.specs.All.All.{none}
+use Rattle.plain.specs.All.All.{none}
 use Rattle.file_lines.specs.Lines.{Without}
 use Rattle.file_lines.proofs.Scan.{without-more, without-all}
 use Rattle.file_lines.proofs.find.Statement.{statement}

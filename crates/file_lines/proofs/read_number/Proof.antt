@@ -4,7 +4,7 @@ use native.Mathlib.Omega.{arith}
 use lib.Seq.{length-take-le}
 use Rattle.file_numerals.specs.Digits.{decimal}
 use Rattle.file_numerals.specs.Read.{DecimalRead}
-use Rattle.file_lines.specs.Book.{Writable}
+use Rattle.file_lines.specs.Grammar.{Writable}
 use Rattle.file_lines.specs.Lines.{First, FoundIn}
 use Rattle.file_lines.proofs.Split.{leads-is, leads-none, leads-missing}
 use Rattle.file_lines.proofs.Read.{without-decimal}

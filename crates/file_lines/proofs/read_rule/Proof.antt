@@ -3,7 +3,7 @@ use mathlib.Core.Path.{subst}
 use Prim.Native.Nat.{_+_, _≤_}
 use native.Mathlib.Omega.{arith}
 use lib.ListN.{length}
-use Rattle.file_lines.specs.Book.{ruleLine}
+use Rattle.file_lines.specs.Grammar.{ruleLine}
 use Rattle.file_lines.specs.Lines.{NumberFirst, NumberRead, TwoRead}
 use Rattle.file_lines.proofs.Read.{restFrom, number-rest, rule-within, rule-rest, rule-is}
 use borrow.Author.Needs.{needs}

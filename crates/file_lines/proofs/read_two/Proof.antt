@@ -2,7 +2,7 @@
 use mathlib.Core.Path.{subst}
 use Rattle.file_numerals.specs.Digits.{decimal}
 use Rattle.file_numerals.specs.Read.{DecimalRead}
-use Rattle.file_lines.specs.Book.{twoNumbers}
+use Rattle.file_lines.specs.Grammar.{twoNumbers}
 use Rattle.file_lines.specs.Lines.{NumberFirst, NumberRead}
 use Rattle.file_lines.proofs.Read.{number-rest, number-is}
 use borrow.Author.Needs.{needs}

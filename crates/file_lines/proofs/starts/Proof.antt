@@ -3,7 +3,7 @@ use mathlib.Core.Path.{_≡_, refl}
 use Prim.Native.Nat.{_-_, _≤_}
 use native.Mathlib.Omega.{arith}
 use lib.ListN.{length}
-use Rattle.bases.proofs.Tells.{tells-true, tells-false}
+use Rattle.plain.proofs.Tells.{tells-true, tells-false}
 use Rattle.file_lines.proofs.Scan.{Alike, alike-none, alike-more, alike-all, differs, too-short}
 use Rattle.file_lines.proofs.starts.Statement.{statement}
 use Rattle.file_lines.proofs.starts.Tie as tie

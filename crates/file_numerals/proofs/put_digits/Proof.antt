@@ -1,4 +1,5 @@
--- `file_numerals::put_digits`: the digits from place i on stand, and those before are the digits of the rest. Assumes nothing.
+-- `file_numerals::put_digits`: the digits from place i on stand, and those before are the digits of the rest. Assumes
+-- nothing.
 use mathlib.Core.Path.{_≡_}
 use Prim.Native.Nat.{_≤_}
 use native.Mathlib.Omega.{arith}

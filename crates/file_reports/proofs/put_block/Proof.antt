@@ -1,14 +1,15 @@
 -- `file_reports::put_block`: the two words of the base, the two counts and the newline. Assumes nothing.
-use mathlib.Core.Path.{sym, ap, _∙_}
-use mathlib.Core.List.{[], _∷_, _++_}
+use mathlib.Core.Path.{sym}
+use mathlib.Core.List.{_++_}
 use Prim.Native.Nat.{_+_}
 use native.Mathlib.Omega.{arith}
-use Rattle.sets.specs.Set.{Proper}
+use Rattle.sets.specs.Set.{setOf, Proper}
 use Rattle.sets.proofs.Exact.{held-under}
-use Rattle.sets.proofs.Four.{first-two-words}
-use Rattle.shapes.specs.Shape.{Block}
-use Rattle.shapes.proofs.Put.{of-base}
-use Rattle.file_lines.specs.Book.{blockLine, joined}
+use Rattle.bases.specs.Base.{baseWords, codes}
+use Rattle.bases.proofs.Words.{first-words}
+use Rattle.plain.specs.All.All.{none, more}
+use Rattle.file_lines.specs.Grammar.{baseDigits}
+use Rattle.file_numerals.specs.Read.{wordDigits}
 use Rattle.file_numerals.specs.Digits.{digits}
 use Rattle.file_numerals.proofs.Digits.{digits-length}
 use Rattle.file_reports.specs.Put.{pairEnd}
@@ -46,23 +47,24 @@ proper : (c : tie.Start) → Proper (c .args .b .base)
 proper c = search needs
 
 returns : tie.Need-returns
+unfolding setOf
 returns c =
     let a = c .before .before .before .before .before .before .before .before .before .before .before .before .before .args in
     let one = c .before .before .before .before .before .before .before .before .before .before .put-digits in
     let two = c .before .before .before .before .before .before .put-digits2 in
     let three = c .before .before .put-pair in
     let right = c .before .before .before .before .before .before .before .before .before .before .before .before .before .pre .1 in
-    let h = digits-length 16 16 (a .b .base .b) in
-    let g = digits-length 16 16 (a .b .base .a) in
-    let first = put-of (a .out .now) (a .at) (digits 16 16 (a .b .base .b)) (one .last .1 .1 .1 .0) (a .at + 16) (omega arith) (one .ensures) in
-    let second = put-of (one .last .1 .1 .1 .0) (a .at + 16) (digits 16 16 (a .b .base .a)) (two .last .1 .1 .1 .0) (a .at + 32) (omega arith) (two .ensures) in
-    let both = put-then (a .out .now) (a .at) (digits 16 16 (a .b .base .b)) (one .last .1 .1 .1 .0) (a .at + 16) (digits 16 16 (a .b .base .a)) (two .last .1 .1 .1 .0) (a .at + 32) first second in
-    let all = put-then (a .out .now) (a .at) (digits 16 16 (a .b .base .b) ++ digits 16 16 (a .b .base .a)) (two .last .1 .1 .1 .0) (a .at + 32) (pairEnd (a .b .lower) (a .b .upper)) (three .last .1 .1 .0) (three .result) both (three .ensures) in
+    let h = digits-length 16 wordDigits (a .b .base .b) in
+    let g = digits-length 16 wordDigits (a .b .base .a) in
+    let first = put-of (a .out .now) (a .at) (digits 16 wordDigits (a .b .base .b)) (one .last .1 .1 .1 .0) (a .at + wordDigits) (omega arith) (one .ensures) in
+    let second = put-of (one .last .1 .1 .1 .0) (a .at + wordDigits) (digits 16 wordDigits (a .b .base .a)) (two .last .1 .1 .1 .0) (a .at + baseDigits) (omega arith) (two .ensures) in
+    let both = put-then (a .out .now) (a .at) (digits 16 wordDigits (a .b .base .b)) (one .last .1 .1 .1 .0) (a .at + wordDigits) (digits 16 wordDigits (a .b .base .a)) (two .last .1 .1 .1 .0) (a .at + baseDigits) first second in
+    let all = put-then (a .out .now) (a .at) (digits 16 wordDigits (a .b .base .b) ++ digits 16 wordDigits (a .b .base .a)) (two .last .1 .1 .1 .0) (a .at + baseDigits) (pairEnd (a .b .lower) (a .b .upper)) (three .last .1 .1 .0) (three .result) both (three .ensures) in
     let l = pair-five (a .b .lower) (a .b .upper) (right .lower) (right .upper) in
     let p = three .ensures .place in
     let small = proper (c .before .before .before .before .before .before .before .before .before .before .before .before .before) in
-    let words = first-two-words (a .b .base) small (held-under 128 (right .base)) in
-    (put-as _ _ _ _ _ _ (block-text (a .b .base .a) (a .b .base .b) (a .b .lower) (a .b .upper) (small .a) ∙ ap (λ (b : Block). joined (blockLine b ∷ [])) (of-base (sym words))) all, omega arith)
+    let words = first-words baseWords (more (small .a) (more (small .b) (more (small .c) (more (small .d) none)))) (held-under codes (right .base)) in
+    (put-as _ _ _ _ _ _ (block-text (a .b .base .a) (a .b .base .b) (small .a) (small .b) (sym words) (a .b .lower) (a .b .upper)) all, omega arith)
 
 pub put-block-spec : {M : Type 1} → statement M
 put-block-spec =

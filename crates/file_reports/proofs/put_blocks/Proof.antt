@@ -1,21 +1,21 @@
 -- `file_reports::put_blocks`: the first i blocks are written. Assumes nothing.
 use mathlib.Core.Path.{_≡_, refl, sym, ap, _∙_, subst}
 use mathlib.Core.List.{List, map}
-use Prim.Native.Nat.{_+_, _-_, _*_, _/_, _≤_, _<_}
+use Prim.Native.Nat.{_+_, _-_, _*_, _≤_, _<_}
 use native.Mathlib.Omega.{arith}
 use lib.ListN.{length, take}
 use lib.Seq.{take-all}
-use Rattle.shapes.specs.Shape.{Block}
+use Rattle.shapes.specs.Shape.{Block, blockCount}
 use Rattle.shapes.specs.Lent.{shapeOf, meant}
 use Rattle.shapes.proofs.Lent.{shape-length}
-use Rattle.file_lines.specs.Book.{RightBlock, blockLine, joined}
-use Rattle.file_reports.specs.Put.{Wrote}
+use Rattle.file_lines.specs.Grammar.{RightBlock, blockLine, joined}
+use Rattle.file_reports.specs.Put.{Wrote, blockRoom}
 use Rattle.file_reports.proofs.Put.{put-none, put-then, put-as, right-at, block-more}
 use Rattle.file_reports.proofs.put_blocks.Statement.{statement}
 use Rattle.file_reports.proofs.put_blocks.Tie as tie
 
 abbrev Inv-loop : tie.InvT-loop
-Inv-loop blocks out₀ at n end₀ i₀ out end i = (n ≡ length blocks / 4) × (i ≤ n) × (length out ≡ length out₀) × Wrote out₀ at (joined (map blockLine (take i (shapeOf blocks)))) out end × (end ≤ at + i * 45)
+Inv-loop blocks out₀ at n end₀ i₀ out end i = (n ≡ blockCount blocks) × (i ≤ n) × (length out ≡ length out₀) × Wrote out₀ at (joined (map blockLine (take i (shapeOf blocks)))) out end × (end ≤ at + i * blockRoom)
 
 abbrev μ-loop : tie.MeasureT-loop
 μ-loop blocks out₀ at n end₀ i₀ out end i = n - i
@@ -49,7 +49,7 @@ loop-again c =
     let a = c .before .before .before .before .before .before .before .before .before .args in
     let h = c .before .before .before .before .before .loop-test .taken in
     let put = c .before .before .put-block in
-    let here : l .i < length (a .blocks .now) / 4 = let e = l .inv .0 in omega arith in
+    let here : l .i < blockCount (a .blocks .now) = let e = l .inv .0 in omega arith in
     let m = l .inv .4 in
     let r = put .ensures .1 in (
       l .inv .0,

@@ -6,14 +6,14 @@ use native.Mathlib.Omega.{arith}
 use lib.ListN.{length, take}
 use Rattle.file_numerals.specs.Digits.{decimal}
 use lib.Seq.{take-all}
-use Rattle.file_lines.specs.Book.{joined}
-use Rattle.file_reports.specs.Put.{Wrote}
+use Rattle.file_lines.specs.Grammar.{joined}
+use Rattle.file_reports.specs.Put.{Wrote, numberRoom}
 use Rattle.file_reports.proofs.Put.{put-none, put-then, put-as, lines-more}
 use Rattle.file_reports.proofs.put_counts.Statement.{statement}
 use Rattle.file_reports.proofs.put_counts.Tie as tie
 
 abbrev Inv-loop : tie.InvT-loop
-Inv-loop counts out₀ at n end₀ i₀ out end i = (n ≡ length counts) × (i ≤ n) × (length out ≡ length out₀) × Wrote out₀ at (joined (map decimal (take i counts))) out end × (end ≤ at + i * 21)
+Inv-loop counts out₀ at n end₀ i₀ out end i = (n ≡ length counts) × (i ≤ n) × (length out ≡ length out₀) × Wrote out₀ at (joined (map decimal (take i counts))) out end × (end ≤ at + i * numberRoom)
 
 abbrev μ-loop : tie.MeasureT-loop
 μ-loop counts out₀ at n end₀ i₀ out end i = n - i

@@ -1,7 +1,9 @@
 -- `file_runs::refuse_short`: the check of the book, and 5 where it is accepted. Assumes nothing.
-use mathlib.Core.Path.{refl, subst}
+use mathlib.Core.Path.{subst}
+use native.Mathlib.Omega.{arith}
+use Rattle.answers.specs.Turns.{here, later}
+use Rattle.answers.proofs.Turns.{lacks}
 use Rattle.books.specs.Refused.{BookChecked}
-use Rattle.file_runs.specs.Promise.ReportRefused.{wrong, short}
 use borrow.Author.Needs.{needs}
 use Rattle.file_runs.proofs.refuse_short.Statement.{statement}
 use Rattle.file_runs.proofs.refuse_short.Tie as tie
@@ -16,12 +18,12 @@ enum-told : tie.Need-enum-told
 enum-told c = search needs
 
 returns : tie.Need-returns
-returns c = wrong (subst (BookChecked _ _ _ _) (c .before .r .given .1) (c .before .before .before .check-book .ensures))
+returns c = here (subst (BookChecked _ _ _ _) (c .before .r .given .1) (c .before .before .before .check-book .ensures))
 
 returns-2 : tie.Need-returns-2
 returns-2 c =
     let pre = c .before .before .before .before .before .before .pre in
-    short (subst (BookChecked _ _ _ _) (c .enum-told .given .1) (c .before .before .check-book .ensures)) pre refl
+    later (subst (BookChecked _ _ _ _) (c .enum-told .given .1) (c .before .before .check-book .ensures)) (here (lacks (λ h. omega arith)))
 
 pub refuse-short-spec : {M : Type 1} → statement M
 refuse-short-spec = tie.close (tie.spec check-book-requires enum-known-r enum-told returns returns-2)

@@ -1,8 +1,7 @@
 -- `file_sections::count_line`: a decimal, stored. Assumes nothing.
-use mathlib.Core.Path.{refl, subst}
-use mathlib.Core.List.{[], _∷_}
+use mathlib.Core.Path.{subst}
 use Rattle.file_numerals.specs.Read.{DecimalRead}
-use Rattle.file_sections.proofs.Views.{countIn}
+use Rattle.file_sections.proofs.Stored.{put-count}
 use borrow.Author.Needs.{needs}
 use Rattle.file_sections.proofs.count_line.Statement.{statement}
 use Rattle.file_sections.proofs.count_line.Tie as tie
@@ -23,7 +22,7 @@ slice-write-out : tie.Need-slice-write-out
 slice-write-out c = search needs
 
 returns : tie.Need-returns
-returns c = λ xs r e. subst (DecimalRead _) (c .enum-told .given .1) (c .before .before .read-decimal .ensures) (countIn xs) (r .1) e
+returns c = λ n h e. subst (DecimalRead _) (c .enum-told .given .1) (c .before .before .read-decimal .ensures) n h e
 
 same-length : tie.Need-same-length
 same-length c = search needs
@@ -32,7 +31,7 @@ returns-2 : tie.Need-returns-2
 returns-2 c =
     let n = c .before .n .given .0 .0 in
     let read = subst (DecimalRead _) (c .before .n .given .1) (c .before .before .before .read-decimal .ensures) in
-    record { item-is = n ∷ []; says = ((refl, read .0), read .1); stored = refl }
+    record { item = n; says = (read .0, read .1); stored = put-count _ _ n (c .before .before .before .before .before .before .pre) }
 
 pub count-line-spec : {M : Type 1} → statement M
 count-line-spec =

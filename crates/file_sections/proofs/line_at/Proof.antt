@@ -2,11 +2,11 @@
 use mathlib.Core.Path.{sym, subst}
 use native.Mathlib.Omega.{arith}
 use lib.Seq.{length-take-le}
+use Rattle.file_lines.specs.Grammar.{RightItem, lineOf}
 use Rattle.file_lines.specs.Lines.{First, FoundIn}
 use Rattle.file_lines.proofs.Split.{leads-is, leads-none, leads-missing}
-use Rattle.file_sections.specs.Items.{RightItem, lineOf}
+use Rattle.files.proofs.Items.{without-item}
 use Rattle.file_sections.specs.Parts.{LineRead}
-use Rattle.file_sections.proofs.Views.{without-item}
 use borrow.Author.Needs.{needs}
 use Rattle.file_sections.proofs.line_at.Statement.{statement}
 use Rattle.file_sections.proofs.line_at.Tie as tie
@@ -17,15 +17,15 @@ find-requires c κs = search needs
 enum-told : tie.Need-enum-told
 enum-told c = search needs
 
-enum-known-i : tie.Need-enum-known-i
-enum-known-i c = search needs
+enum-known-k : tie.Need-enum-known-k
+enum-known-k c = search needs
 
 -- the first newline
-found : (c : tie.After-i) → First 10 (c .before .before .before .before .before .args .bytes .now) (c .i .given .0 .0)
-found c = subst (FoundIn 10 _) (c .i .given .1) (c .before .before .find .ensures)
+found : (c : tie.After-k) → First 10 (c .before .before .before .before .before .args .bytes .now) (c .k .given .0 .0)
+found c = subst (FoundIn 10 _) (c .k .given .1) (c .before .before .find .ensures)
 
 slice-aggregate-read-line : tie.Need-slice-aggregate-read-line
-slice-aggregate-read-line c = let h = found (c .before .before) .within in sym (length-take-le (c .before .before .i .given .0 .0) (c .before .before .before .before .before .before .before .args .bytes .now) (omega arith))
+slice-aggregate-read-line c = let h = found (c .before .before) .within in sym (length-take-le (c .before .before .k .given .0 .0) (c .before .before .before .before .before .before .before .args .bytes .now) (omega arith))
 
 read-line-requires : tie.Need-read-line-requires
 read-line-requires c κs = search needs
@@ -38,23 +38,23 @@ same-length c = search needs
 
 returns : tie.Need-returns
 returns c =
-    let s = c .before .before .before .before .before .before .before .before .before .before .before .before in
+    let a = c .before .before .before .before .before .before .before .before .before .before .before .before .args in
     let l = c .before .before .before .read-line in
-    let read = subst (LineRead (s .args .item) _ (s .args .at) (s .args .out .now) (l .last .1 .1 .0)) (c .if1 .taken) (l .ensures) in
-    record { item-is = read .item-is; line = leads-is 10 (RightItem (s .args .item)) (lineOf (s .args .item)) _ _ _ (found (c .before .before .before .before .before .before .before)) (read .says); stored = read .stored }
+    let read = subst (LineRead (a .heading) _ (a .i) (a .out .now) (l .last .1 .1 .0)) (c .if1 .taken) (l .ensures) in
+    record { item = read .item; line = leads-is 10 (RightItem (a .heading)) (lineOf (a .heading)) _ _ _ (found (c .before .before .before .before .before .before .before)) (read .says); stored = read .stored }
 
 returns-2 : tie.Need-returns-2
-returns-2 c = leads-missing 10 (RightItem (c .before .before .before .before .before .args .item)) (lineOf (c .before .before .before .before .before .args .item)) _ (subst (FoundIn 10 _) (c .enum-told .given .1) (c .before .before .find .ensures))
+returns-2 c = leads-missing 10 (RightItem (c .before .before .before .before .before .args .heading)) (lineOf (c .before .before .before .before .before .args .heading)) _ (subst (FoundIn 10 _) (c .enum-told .given .1) (c .before .before .find .ensures))
 
 same-length-2 : tie.Need-same-length-2
 same-length-2 c = search needs
 
 returns-3 : tie.Need-returns-3
 returns-3 c =
-    let s = c .before .before .before .before .before .before .before .before .before .before .before .before in
+    let a = c .before .before .before .before .before .before .before .before .before .before .before .before .args in
     let l = c .before .before .before .read-line in
-    let read = subst (LineRead (s .args .item) _ (s .args .at) (s .args .out .now) (l .last .1 .1 .0)) (c .if1 .left) (l .ensures) in
-    leads-none 10 (RightItem (s .args .item)) (lineOf (s .args .item)) _ (λ xs r. without-item (s .args .item) xs) _ (found (c .before .before .before .before .before .before .before)) read
+    let read = subst (LineRead (a .heading) _ (a .i) (a .out .now) (l .last .1 .1 .0)) (c .if1 .left) (l .ensures) in
+    leads-none 10 (RightItem (a .heading)) (lineOf (a .heading)) _ (λ x r. without-item (a .heading) x) _ (found (c .before .before .before .before .before .before .before)) read
 
 pub line-at-spec : {M : Type 1} → statement M
 line-at-spec =
@@ -62,7 +62,7 @@ line-at-spec =
     (tie.spec
     find-requires
     enum-told
-    enum-known-i
+    enum-known-k
     slice-aggregate-read-line
     read-line-requires
     add-t13

@@ -3,9 +3,9 @@ use mathlib.Core.Path.{refl, subst}
 use native.Mathlib.Numerals.{towards-suc}
 use native.Mathlib.Omega.{arith}
 use lib.ListN.{length-set}
-use Rattle.rules.specs.Rule.{numbersOf}
+use Rattle.plain.proofs.Items.{put-item}
+use Rattle.rules.specs.Rule.{ruleSize, numbersOf}
 use Rattle.file_lines.specs.Lines.{RuleRead}
-use Rattle.file_sections.proofs.Views.{ruleIn}
 use borrow.Author.Needs.{needs}
 use Rattle.file_sections.proofs.rule_line.Statement.{statement}
 use Rattle.file_sections.proofs.rule_line.Tie as tie
@@ -18,6 +18,9 @@ enum-told c = search needs
 
 enum-known-r : tie.Need-enum-known-r
 enum-known-r c = search needs
+
+mul-at : tie.Need-mul-at
+mul-at c = search needs
 
 mul-out : tie.Need-mul-out
 mul-out c = search needs
@@ -53,15 +56,17 @@ slice-write-out-4 : tie.Need-slice-write-out-4
 slice-write-out-4 c = simp length-set (omega arith)
 
 returns : tie.Need-returns
-returns c = λ xs r e. subst (RuleRead _) (c .enum-told .given .1) (c .before .before .read-rule .ensures) (ruleIn xs) (r .1) e
+returns c = λ r h e. subst (RuleRead _) (c .enum-told .given .1) (c .before .before .read-rule .ensures) r h e
 
 same-length : tie.Need-same-length
 same-length c = search needs
 
 returns-2 : tie.Need-returns-2
 returns-2 c =
+    let a = c .before .before .before .before .before .before .args in
+    let r = c .before .r .given .0 .0 in
     let read = subst (RuleRead _) (c .before .r .given .1) (c .before .before .before .read-rule .ensures) in
-    record { item-is = numbersOf (c .before .r .given .0 .0); says = ((refl, read .0), read .1); stored = simp towards-suc }
+    record { item = r; says = (read .0, read .1); stored = simp towards-suc (put-item ruleSize (a .out .now) (a .i) (numbersOf r) refl (c .before .before .before .before .before .before .pre)) }
 
 pub rule-line-spec : {M : Type 1} → statement M
 rule-line-spec =
@@ -70,6 +75,7 @@ rule-line-spec =
     read-rule-requires
     enum-told
     enum-known-r
+    mul-at
     mul-out
     slice-write-out
     add-out

@@ -1,4 +1,5 @@
--- `find_calls::index_of`: as many characters stand before the mark as it lacks of k, and indices count from 1. Assumes nothing.
+-- `find_calls::index_of`: as many characters stand before the mark as it lacks of k, and indices count from 1. Assumes
+-- nothing.
 use native.Mathlib.Omega.{arith}
 use borrow.Author.Needs.{needs}
 use Rattle.find_calls.proofs.index_of.Statement.{statement}

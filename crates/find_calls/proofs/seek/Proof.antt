@@ -1,4 +1,5 @@
--- `find_calls::seek`: the lengths at which the mark is complete tell the indices, the live states the texts that lack it. Assumes nothing.
+-- `find_calls::seek`: the lengths at which the mark is complete tell the indices, the live states the texts that lack
+-- it. Assumes nothing.
 use borrow.Author.Needs.{needs}
 use Rattle.shapes.specs.Lent.{shapeOf}
 use Rattle.find_texts.specs.Occurs.{Indices}

@@ -6,15 +6,15 @@ use native.Mathlib.Omega.{arith}
 use borrow.Author.Needs.{needs}
 use borrow.Author.Tests.{leb-true, leb-false}
 use lib.ListN.{length}
-use Rattle.bases.specs.Tells.{Tells}
+use Rattle.plain.specs.Tells.{Tells}
 use Rattle.sets.specs.Set.{setOf, Exactly}
 use Rattle.shapes.specs.Shape.{Block, total}
 use Rattle.shapes.specs.Lent.{meant}
 use Rattle.rows.specs.Row.{rowIn}
-use Rattle.find_texts.specs.Reading.{Within, ReadTo}
+use Rattle.find_texts.specs.Reading.{ReadWithin, ReadTo}
 use Rattle.find_borders.specs.Borders.{ShortMark}
 use Rattle.find_ways.specs.Ways.{Falls, WaysOf}
-use Rattle.find_rows.specs.Says.{Says, HitsSay, LiveIn, Arrived, Underway}
+use Rattle.find_rows.specs.Says.{RowsSay, HitsSay, LiveIn, Arrived, Underway}
 use Rattle.find_reads.specs.Reads.{Heard}
 use Rattle.find_reads.proofs.Say.{says-more, hits-more, block-start, hits-start, block-end, block-hits}
 use Rattle.find_reads.proofs.read_block.Statement.{statement}
@@ -22,7 +22,7 @@ use Rattle.find_reads.proofs.read_block.Tie as tie
 
 -- o characters of the block after s
 record ReadSome (mark : List ℕ) (s : List Block) (base lower o : ℕ) (rows : List ℕ) (hits : ℕ) : Type 0 where
-  kept : Says mark (Within s base lower o) rows
+  kept : RowsSay mark (ReadWithin s base lower o) rows
   struck : HitsSay mark (ReadTo s base o) hits
 
 -- nothing is under way yet: the row before row m is the last

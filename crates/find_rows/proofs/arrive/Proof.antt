@@ -1,4 +1,5 @@
--- `find_rows::arrive`: the rows of the live states from which a character of the base leads to t, one up. Assumes nothing.
+-- `find_rows::arrive`: the rows of the live states from which a character of the base leads to t, one up. Assumes
+-- nothing.
 use mathlib.Core.Path.{_≡_, sym, subst}
 use Prim.Native.Nat.{ℕ, _+_, _-_, _<_}
 use native.Mathlib.Omega.{arith}

@@ -1,4 +1,5 @@
--- `find_rows::step`: one row more each turn; past the end there is nothing, before the character and after it. Assumes nothing.
+-- `find_rows::step`: one row more each turn; past the end there is nothing, before the character and after it. Assumes
+-- nothing.
 use mathlib.Core.Path.{_≡_, subst}
 use Prim.Native.Nat.{ℕ, _-_, _≤_}
 use native.Mathlib.Omega.{arith}

@@ -1,4 +1,5 @@
--- `find_ways::lay_falls`: one word more each turn; those behind it still tell where the mark has its character. Assumes nothing.
+-- `find_ways::lay_falls`: one word more each turn; those behind it still tell where the mark has its character. Assumes
+-- nothing.
 use mathlib.Core.Path.{_≡_, _∙_, subst}
 use Prim.Native.Nat.{ℕ, _-_, _≤_, _<_}
 use native.Mathlib.Omega.{arith}

@@ -1,11 +1,12 @@
 -- `fit_tables::row_of`: one word is read, or four. Assumes nothing.
 use mathlib.Core.Path.{refl}
 use mathlib.Core.Logic.{⊎-elim}
-use Prim.Native.Nat.{_≤_}
+use Prim.Native.Nat.{_≤_, _*_}
 use native.Mathlib.Omega.{arith}
 use borrow.Author.Needs.{needs}
 use lib.ListN.{length}
 use Rattle.sets.specs.Set.{setOf}
+use Rattle.bases.specs.Base.{codes}
 use Rattle.fit_tables.proofs.Table.{short-row}
 use Rattle.fit_tables.proofs.row_of.Statement.{statement}
 use Rattle.fit_tables.proofs.row_of.Tie as tie
@@ -31,7 +32,7 @@ shared-slice-read-t9 : tie.Need-shared-slice-read-t9
 shared-slice-read-t9 c = search needs
 
 -- where a row has more than one word, it has four
-four : (c : tie.Else1) → 512 ≤ length (c .before .before .args .table .now)
+four : (c : tie.Else1) → 4 * codes ≤ length (c .before .before .args .table .now)
 four c = ⊎-elim (λ e. omega arith) (λ e. omega arith) (c .before .before .pre .0)
 
 add-t10 : tie.Need-add-t10

@@ -1,14 +1,14 @@
 -- `fitting::fits_by`: the row of the blocks from i on, from the last block to the first. Assumes nothing.
 use mathlib.Core.Path.{_≡_, refl, sym, _∙_, subst}
 use mathlib.Core.List.{List, _∷_}
-use Prim.Native.Nat.{ℕ, _+_, _-_, _/_, _≤_, _<_}
+use Prim.Native.Nat.{ℕ, _+_, _-_, _≤_, _<_}
 use native.Mathlib.Omega.{arith}
 use borrow.Author.Needs.{needs, zero≤}
-use lib.ListN.{length, drop}
-use Rattle.bases.specs.Base.{Holds}
+use lib.ListN.{drop}
+use Rattle.bases.specs.Base.{Holds, codes}
 use Rattle.sets.specs.Set.{setOf}
 use Rattle.sets.proofs.Exact.{both-exactly, held-under}
-use Rattle.shapes.specs.Shape.{Block, Sound}
+use Rattle.shapes.specs.Shape.{Block, Sound, blockCount}
 use Rattle.shapes.specs.Lent.{shapeOf, meant}
 use Rattle.shapes.proofs.Lent.{shape-from, none-left, block-sound}
 use Rattle.fit_rows.specs.Rows.{Row}
@@ -21,7 +21,7 @@ block-then : {b b′ : Block} {i j : ℕ} (s : List Block) {r : List Block} → 
 block-then s p q e = sym (e ∙ (λ m. sym p m ∷ drop (q m) s))
 
 abbrev Inv-loop : tie.InvT-loop
-Inv-loop shape text table seen row₀ i₀ row i = (i ≤ length shape / 4) × Row (drop i (shapeOf shape)) text (setOf row)
+Inv-loop shape text table seen row₀ i₀ row i = (i ≤ blockCount shape) × Row (drop i (shapeOf shape)) text (setOf row)
 
 abbrev μ-loop : tie.MeasureT-loop
 μ-loop shape text table seen row₀ i₀ row i = i
@@ -45,8 +45,8 @@ both-requires : tie.Need-both-requires Inv-loop μ-loop
 both-requires c κs = search needs
 
 -- a base of two words holds no byte above 127
-low : (c : tie.After-block-at Inv-loop μ-loop) → (e : ℕ) → Holds (setOf (c .block-at .result .base)) e → e < 128
-low c = held-under 128 (c .block-at .ensures .1)
+low : (c : tie.After-block-at Inv-loop μ-loop) → (e : ℕ) → Holds (setOf (c .block-at .result .base)) e → e < codes
+low c = held-under codes (c .block-at .ensures .1)
 
 places-requires : tie.Need-places-requires Inv-loop μ-loop
 places-requires c κs =

@@ -1,4 +1,5 @@
--- `forth_rows::forth_wide`: each row is the closure of what enters it; one character on, or the end of the run, enters the next. Assumes nothing.
+-- `forth_rows::forth_wide`: each row is the closure of what enters it; one character on, or the end of the run, enters
+-- the next. Assumes nothing.
 use mathlib.Core.Path.{_≡_}
 use Prim.Native.Nat.{_-_, _≤_}
 use native.Mathlib.Omega.{arith}

@@ -7,6 +7,7 @@ use Rattle.answers.specs.declared.Written.{Written}
 use Rattle.answers.specs.declared.Written.the-variants.{Text, Refused}
 use Rattle.file_runs.specs.Promise.{LentPromise}
 use Rattle.answers.proofs.Told.{numbered}
+use Rattle.file_lines.specs.Book.{fileLimit}
 use Rattle.host_calls.proofs.Signed.{fits, positive, difference-fits, negative}
 use borrow.Author.Needs.{needs}
 use Rattle.host_calls.proofs.run.Statement.{statement}
@@ -18,11 +19,11 @@ ran : (c : tie.After-run-lent) {r : Written} → c .run-lent .result ≡ r
 ran c e = subst (LentPromise _ _ _ _ _) e (c .run-lent .ensures)
 
 -- a report is short
-short : (c : tie.After-known-told) → c .before .n .given .0 .0 ≤ 16384
+short : (c : tie.After-known-told) → c .before .n .given .0 .0 ≤ fileLimit
 short c = ran (c .before .before .before .before .before .before .before) (c .before .n .given .1) .0 .written .report .reported .short
 
 -- and so is a refusal's number
-few : (c : tie.After-number) → c .number .result ≤ 16384
+few : (c : tie.After-number) → c .number .result ≤ fileLimit
 few c = let e = c .number .ensures in let h = numbered (c .before .before .r .given .0 .0) .1 in omega arith
 
 run-lent-requires : tie.Need-run-lent-requires

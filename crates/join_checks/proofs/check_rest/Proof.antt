@@ -1,7 +1,7 @@
 -- `join_checks::check_rest`: the line, then work, then the outputs, one after the other. Assumes nothing.
-use mathlib.Core.Path.{refl}
 use native.Mathlib.Omega.{arith}
 use Rattle.answers.specs.Turns.{here, later}
+use Rattle.answers.proofs.Turns.{lacks}
 use Rattle.joins.proofs.Refused.{rest-refused}
 use borrow.Author.Needs.{needs}
 use Rattle.join_checks.proofs.check_rest.Statement.{statement}
@@ -17,19 +17,19 @@ add-upper : tie.Need-add-upper
 add-upper c = search needs
 
 returns : tie.Need-returns
-returns c = rest-refused (c .before .before .before .before .before .before .pre) (here (record { lacking = λ h. omega arith; tells = refl }))
+returns c = rest-refused (c .before .before .before .before .before .before .pre) (here (lacks (λ h. omega arith)))
 
 returns-2 : tie.Need-returns-2
-returns-2 c = rest-refused (c .before .before .before .before .before .before .before .pre) (later (omega arith) (here (record { lacking = λ h. omega arith; tells = refl })))
+returns-2 c = rest-refused (c .before .before .before .before .before .before .before .pre) (later (omega arith) (here (lacks (λ h. omega arith))))
 
 returns-3 : tie.Need-returns-3
-returns-3 c = rest-refused (c .before .before .before .before .before .before .before .before .pre) (later (omega arith) (later (c .before .if2 .left) (here (record { lacking = λ h. omega arith; tells = refl }))))
+returns-3 c = rest-refused (c .before .before .before .before .before .before .before .before .pre) (later (omega arith) (later (c .before .if2 .left) (here (lacks (λ h. omega arith)))))
 
 returns-4 : tie.Need-returns-4
-returns-4 c = rest-refused (c .before .before .before .before .before .before .before .before .before .pre) (later (omega arith) (later (c .before .before .if2 .left) (later (c .before .if3 .left) (here (record { lacking = λ h. omega arith; tells = refl })))))
+returns-4 c = rest-refused (c .before .before .before .before .before .before .before .before .before .pre) (later (omega arith) (later (c .before .before .if2 .left) (later (c .before .if3 .left) (here (lacks (λ h. omega arith))))))
 
 returns-5 : tie.Need-returns-5
-returns-5 c = rest-refused (c .before .before .before .before .before .before .before .before .before .before .pre) (later (omega arith) (later (c .before .before .before .if2 .left) (later (c .before .before .if3 .left) (later (c .before .if4 .left) (here (record { lacking = λ h. omega arith; tells = refl }))))))
+returns-5 c = rest-refused (c .before .before .before .before .before .before .before .before .before .before .pre) (later (omega arith) (later (c .before .before .before .if2 .left) (later (c .before .before .if3 .left) (later (c .before .if4 .left) (here (lacks (λ h. omega arith)))))))
 
 returns-6 : tie.Need-returns-6
 returns-6 c = search needs

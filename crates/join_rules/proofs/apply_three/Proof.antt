@@ -1,15 +1,16 @@
--- `join_rules::apply_three`: the three texts of the join are narrowed, and what comes of them is laid over their places. Assumes nothing.
+-- `join_rules::apply_three`: the three texts of the join are narrowed, and what comes of them is laid over their
+-- places. Assumes nothing.
 use mathlib.Core.Path.{_∙_}
 use mathlib.Core.Bool.{true}
 use mathlib.Core.List.{List, [], _∷_}
-use Prim.Native.Nat.{ℕ}
+use Prim.Native.Nat.{ℕ, _*_}
 use native.Mathlib.Omega.{arith}
 use lib.Dec.{lit≤}
 use lib.ListN.{replicate}
 use borrow.Author.Tests.{not-true, not-false}
 use Rattle.rules.specs.declared.Rule.{Rule}
 use Rattle.shapes.specs.Lent.{Numbers}
-use Rattle.shapes.proofs.All.{all-of}
+use Rattle.plain.proofs.All.{all-of}
 use Rattle.joins.specs.Join.{JoinNarrows}
 use Rattle.books.specs.Code.{numbersIn}
 use Rattle.book_steps.proofs.Looks.{named-third, three-looks}
@@ -17,6 +18,7 @@ use Rattle.book_steps.proofs.Laid.{Lays}
 use Rattle.book_steps.proofs.Once.{says-same, says-changed}
 use Rattle.book_steps.proofs.Narrowed.{three-none, newThree, three-sized, three-hull, three-lays}
 use borrow.Author.Needs.{needs}
+use Rattle.shapes.specs.Shape.{mostBlocks, blockSize}
 use Rattle.join_rules.proofs.apply_three.Statement.{statement}
 use Rattle.join_rules.proofs.apply_three.Tie as tie
 
@@ -84,7 +86,7 @@ module _ (c : tie.After-slice-known4) where
   abbrev xs : List ℕ
   xs = start .args .numbers .now
 
-  all : JoinNarrows (numbersIn counts xs (rule .a)) (numbersIn counts xs (rule .b)) (numbersIn counts xs (rule .c)) (replicate 128 0) (replicate 128 0) (replicate 128 0)
+  all : JoinNarrows (numbersIn counts xs (rule .a)) (numbersIn counts xs (rule .b)) (numbersIn counts xs (rule .c)) (replicate (mostBlocks * blockSize) 0) (replicate (mostBlocks * blockSize) 0) (replicate (mostBlocks * blockSize) 0)
       (c .before .before .before .before .before .before .before .before .before .before .before .before .before .before .before .before .before .before .before .narrow-three .last .1 .1 .1 .0) (c .before .before .before .before .before .before .before .before .before .before .before .before .before .before .before .before .before .before .before .narrow-three .last .1 .1 .1 .1 .0) (c .before .before .before .before .before .before .before .before .before .before .before .before .before .before .before .before .before .before .before .narrow-three .last .1 .1 .1 .1 .1 .0)
   all = c .before .before .before .before .before .before .before .before .before .before .before .before .before .before .before .before .before .before .before .narrow-three .ensures .all (not-false _ (c .before .before .before .before .before .before .before .before .before .before .before .before .before .before .before .if1 .left))
 

@@ -1,10 +1,12 @@
--- `join_rules::narrow_three`: the three texts are accepted shapes that can be joined, so narrowing does not refuse them. Assumes nothing.
+-- `join_rules::narrow_three`: the three texts are accepted shapes that can be joined, so narrowing does not refuse
+-- them. Assumes nothing.
 use native.Mathlib.Omega.{arith}
 use Rattle.joins.specs.Refused.{JoinAccepted}
 use Rattle.book_steps.proofs.Looks.{named-third}
 use Rattle.book_steps.proofs.Narrowed.{three-accepted}
-use Rattle.book_steps.proofs.Texts.{at, at-three, few-numbers, join-is}
+use Rattle.book_steps.proofs.Texts.{at, at-three, join-is}
 use borrow.Author.Needs.{needs}
+use Rattle.shapes.proofs.Lent.{accepted-few}
 use Rattle.join_rules.proofs.narrow_three.Statement.{statement}
 use Rattle.join_rules.proofs.narrow_three.Tie as tie
 
@@ -67,9 +69,9 @@ part-narrow-accepted-end-3 c = search needs
 narrow-accepted-requires : tie.Need-narrow-accepted-requires
 narrow-accepted-requires c κs =
     let ok = accepted (c .before .before .before .before .before .before) in
-    let first = few-numbers (ok .first) in
-    let second = few-numbers (ok .second) in
-    let third = few-numbers (ok .third) in
+    let first = accepted-few (ok .first) in
+    let second = accepted-few (ok .second) in
+    let third = accepted-few (ok .third) in
     let room = c .before .before .before .before .before .before .before .before .before .before .before .before .before .before .pre .1 .1 .1 in
     let room-x = room .0 in
     let room-y = room .1 in

@@ -1,15 +1,17 @@
--- `joins::narrow_accepted`: the line of the second and the third shape is narrowed against the first, under equality, and cut again. Assumes nothing.
+-- `joins::narrow_accepted`: the line of the second and the third shape is narrowed against the first, under equality,
+-- and cut again. Assumes nothing.
 use mathlib.Core.Path.{_≡_, sym, subst}
 use mathlib.Core.List.{List, _++_}
-use Prim.Native.Nat.{ℕ, _+_, _≤_}
+use Prim.Native.Nat.{ℕ, _+_, _≤_, _*_}
 use native.Mathlib.Omega.{arith}
 use borrow.Author.Tests.{not-true, not-false}
 use lib.ListN.{length, take, replicate, length-take}
 use lib.Seq.{length-take-le}
 use Rattle.shapes.specs.Lent.{Whole}
-use Rattle.shapes.proofs.Lent.{accepted-whole, accepted-few}
-use Rattle.rests.specs.Walk.{Same}
+use Rattle.shapes.proofs.Lent.{accepted-whole}
+use Rattle.walks.specs.Walk.{Same}
 use Rattle.pairs.specs.Narrow.{NarrowAnswer}
+use Rattle.shapes.specs.Shape.{lineBlocks, blockSize}
 use Rattle.joins.proofs.Line.{line-whole, line-few}
 use Rattle.joins.proofs.Join.{says-none, narrows, says-some}
 use borrow.Author.Needs.{needs}
@@ -30,7 +32,7 @@ module _ (c : tie.After-lay-line) where
   abbrev start : tie.Start
   start = c .before .before .before .before .before .before .before .before
 
-  line-in : (c .lay-line .result ≡ length (start .args .y .now) + length (start .args .z .now)) × (c .lay-line .result ≤ 256) × (length (c .lay-line .last .1 .1 .0) ≡ 256)
+  line-in : (c .lay-line .result ≡ length (start .args .y .now) + length (start .args .z .now)) × (c .lay-line .result ≤ lineBlocks * blockSize) × (length (c .lay-line .last .1 .1 .0) ≡ lineBlocks * blockSize)
   line-in =
       let few = line-few (start .pre .0) in
       let long = c .lay-line .ensures .0 in
@@ -48,7 +50,7 @@ narrow-line-requires c κs =
     let few = line-in laid in
     let ok = start laid .pre .0 in
     let whole = subst Whole (sym (laid .lay-line .ensures .1)) (line-whole ok) in
-    ((whole, accepted-whole (ok .first)), ((simp length-take (omega arith), accepted-few (ok .first)), (simp length-take (omega arith), start laid .pre .1 .0)))
+    ((whole, accepted-whole (ok .first)), ((simp length-take (omega arith), ok .first .right .few), (simp length-take (omega arith), start laid .pre .1 .0)))
 
 same-length : tie.Need-same-length
 same-length c = search needs
@@ -59,7 +61,7 @@ module _ (c : tie.After-narrow-line) where
   laid = c .before .before .before .before .before
 
   abbrev Said : List ℕ → Type 0
-  Said line = NarrowAnswer Same line (start laid .args .x .now) (replicate 256 0) (start laid .args .out-x .now)
+  Said line = NarrowAnswer Same line (start laid .args .x .now) (replicate (lineBlocks * blockSize) 0) (start laid .args .out-x .now)
       (c .narrow-line .last .1 .1 .0) (c .narrow-line .last .1 .1 .1 .0) (c .narrow-line .result)
 
   said : Said (start laid .args .y .now ++ start laid .args .z .now)

@@ -7,15 +7,16 @@ use lib.ListN.{length}
 use Rattle.texts.specs.Kind.{relationOf}
 use Rattle.pairs.specs.Pair.{PairAccepted}
 use Rattle.shapes.specs.Lent.{Whole}
-use Rattle.shapes.proofs.Lent.{accepted-whole, accepted-few}
+use Rattle.shapes.proofs.Lent.{accepted-whole}
+use Rattle.shapes.specs.Shape.{blockCount, mostBlocks}
 use Rattle.kinds.proofs.Kind.{by-kind, no-other}
 use borrow.Author.Needs.{needs}
 use Rattle.kinds.proofs.narrow_accepted.Statement.{statement}
 use Rattle.kinds.proofs.narrow_accepted.Tie as tie
 
 -- accepted shapes are whole, and of few blocks
-whole : {xs ys : List ℕ} → PairAccepted xs ys → (Whole xs × Whole ys) × ((length xs ≤ 128) × (length ys ≤ 128))
-whole p = ((accepted-whole (p .first), accepted-whole (p .second)), (accepted-few (p .first), accepted-few (p .second)))
+whole : {xs ys : List ℕ} → PairAccepted xs ys → (Whole xs × Whole ys) × ((blockCount xs ≤ mostBlocks) × (blockCount ys ≤ mostBlocks))
+whole p = ((accepted-whole (p .first), accepted-whole (p .second)), (p .first .right .few, p .second .right .few))
 
 narrow-padded-requires : tie.Need-narrow-padded-requires
 narrow-padded-requires c κs = let p = c .before .before .before .before .before .before .before .pre in let w = whole (p .1 .0) in (w .0, (w .1, p .1 .1))

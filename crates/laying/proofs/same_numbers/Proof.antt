@@ -7,7 +7,7 @@ use borrow.Author.Count.{below-more}
 use borrow.Author.Needs.{needs}
 use lib.ListN.{length, getD}
 use lib.Seq.{ext-getD}
-use Rattle.bases.proofs.Tells.{tells-true, tells-false}
+use Rattle.plain.proofs.Tells.{tells-true, tells-false}
 use Rattle.laying.proofs.same_numbers.Statement.{statement}
 use Rattle.laying.proofs.same_numbers.Tie as tie
 

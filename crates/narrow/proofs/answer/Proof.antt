@@ -1,4 +1,5 @@
--- `narrow::answer` hands on what `report_of` left at the start of the output: all of the report that is due. Assumes nothing.
+-- `narrow::answer` hands on what `report_of` left at the start of the output: all of the report that is due. Assumes
+-- nothing.
 use borrow.Author.Needs.{needs}
 use mathlib.Core.Path.{sym}
 use lib.Seq.{length-take-le}

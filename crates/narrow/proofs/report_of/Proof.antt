@@ -1,4 +1,5 @@
--- `narrow::report_of`: the report of the file's book, or the line of its refusal, by the promise of `dashed::run_file`. Assumes nothing.
+-- `narrow::report_of`: the report of the file's book, or the line of its refusal, by the promise of `dashed::run_file`.
+-- Assumes nothing.
 use mathlib.Core.Path.{subst}
 use Rattle.dashed.specs.Promises.{RunFile}
 use Rattle.file_runs.proofs.Determined.{text-report, refused-report}

@@ -1,11 +1,12 @@
 -- `order_back::gather`: group before group, from past all states that are reached to the first. Assumes nothing.
 use native.Mathlib.Omega.{arith}
 use mathlib.Core.Path.{_≡_, refl, _∙_}
-use Prim.Native.Nat.{_+_, _/_, _≤_}
+use Prim.Native.Nat.{_+_, _≤_}
 use lib.ListN.{length, take}
 use Rattle.shapes.specs.Lent.{shapeOf}
-use Rattle.rests.specs.Walk.{slotAt}
+use Rattle.walks.specs.Walk.{slotAt}
 use Rattle.order_guides.specs.Guide.{guideOf}
+use Rattle.shapes.specs.Shape.{blockCount}
 use Rattle.order_back.specs.Back.{GathersFrom}
 use Rattle.order_back.proofs.Groups.{top-limit, rows-upto, gathers-none, gathers-more, gathers-all}
 use borrow.Author.Needs.{needs}
@@ -14,7 +15,7 @@ use Rattle.order_back.proofs.gather.Tie as tie
 
 abbrev Inv-loop : tie.InvT-loop
 Inv-loop d strict x zones ends slots spans runs u text m rows n chars₀ g₀ hi₀ chars g hi =
-    (hi ≤ m + 1) × (hi ≤ n + 1) × (length chars ≡ length chars₀) × GathersFrom (slotAt (shapeOf x)) (guideOf d strict (take m text)) u slots (length x / 4) hi chars g
+    (hi ≤ m + 1) × (hi ≤ n + 1) × (length chars ≡ length chars₀) × GathersFrom (slotAt (shapeOf x)) (guideOf d strict (take m text)) u slots (blockCount x) hi chars g
 
 abbrev μ-loop : tie.MeasureT-loop
 μ-loop d strict x zones ends slots spans runs u text m rows n chars₀ g₀ hi₀ chars g hi = hi

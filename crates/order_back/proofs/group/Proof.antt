@@ -1,4 +1,5 @@
--- `order_back::group`: positions sort alike at all its states, so what is gathered at them and the characters that they bring go together. Assumes nothing.
+-- `order_back::group`: positions sort alike at all its states, so what is gathered at them and the characters that they
+-- bring go together. Assumes nothing.
 use native.Mathlib.Omega.{arith}
 use mathlib.Core.Path.{refl}
 use lib.ListN.{take}

@@ -1,4 +1,5 @@
--- `order_forth::forth`: each row is the closure of the row before, one character on; past an empty row there is none. Assumes nothing.
+-- `order_forth::forth`: each row is the closure of the row before, one character on; past an empty row there is none.
+-- Assumes nothing.
 use native.Mathlib.Omega.{arith}
 use mathlib.Core.Path.{_≡_, refl, sym, _∙_}
 use Prim.Native.Nat.{_-_}

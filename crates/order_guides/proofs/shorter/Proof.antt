@@ -1,7 +1,7 @@
 -- `order_guides::shorter`: below T alone. Assumes nothing.
 use native.Mathlib.Omega.{arith}
 use borrow.Author.Needs.{needs}
-use Rattle.bases.proofs.Tells.{tells-true, tells-false}
+use Rattle.plain.proofs.Tells.{tells-true, tells-false}
 use Rattle.order_guides.proofs.Text.{tells-shorter}
 use Rattle.order_guides.proofs.shorter.Statement.{statement}
 use Rattle.order_guides.proofs.shorter.Tie as tie

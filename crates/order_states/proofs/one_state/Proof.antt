@@ -1,4 +1,5 @@
--- `order_states::one_state`: the row closed backwards is the rests; what is reached, ends early, stays or parts is in the row and there. Assumes nothing.
+-- `order_states::one_state`: the row closed backwards is the rests; what is reached, ends early, stays or parts is in
+-- the row and there. Assumes nothing.
 use Rattle.sets.specs.Set.{setOf}
 use Rattle.order_rows.proofs.Passes.{pass-state}
 use borrow.Author.Needs.{needs}

@@ -3,10 +3,10 @@ use native.Mathlib.Omega.{arith}
 use mathlib.Core.Path.{ap, _∙_}
 use Prim.Native.Nat.{ℕ}
 use lib.ListN.{length, length-replicate}
-use Rattle.shapes.specs.All.{All}
+use Rattle.plain.specs.All.{All}
 use Rattle.shapes.specs.Shape.{Small}
 use Rattle.shapes.specs.Lent.{shapeOf}
-use Rattle.shapes.proofs.All.{all-of}
+use Rattle.plain.proofs.All.{all-of}
 use Rattle.shapes.proofs.Lent.{small-bases}
 use Rattle.shapes.proofs.Lent.{accepted-whole}
 use Rattle.orders.proofs.Narrowed.{text-taken, text-short, text-plain, one-by}

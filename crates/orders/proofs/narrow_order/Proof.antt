@@ -1,7 +1,7 @@
 -- `orders::narrow_order`: x by the greatest text of y, then y by the least text of x as it was. Assumes nothing.
 use borrow.Author.Tests.{not-true, not-false}
 use Rattle.shapes.specs.Lent.{shapeOf}
-use Rattle.shapes.proofs.All.{all-of}
+use Rattle.plain.proofs.All.{all-of}
 use Rattle.shapes.proofs.Lent.{small-bases}
 use Rattle.extreme_steps.specs.declared.Direction.the-variants.{Least, Greatest}
 use Rattle.extreme_steps.specs.Steps.{extreme}

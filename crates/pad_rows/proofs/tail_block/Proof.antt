@@ -1,5 +1,5 @@
--- `pad_rows::tail_block`: nothing of a block is added unless its end is in the row, and then all of it where it may hold padding, and else its zone.
--- Assumes nothing.
+-- `pad_rows::tail_block`: nothing of a block is added unless its end is in the row, and then all of it where it may
+-- hold padding, and else its zone. Assumes nothing.
 use mathlib.Core.Path.{refl}
 use borrow.Author.Tests.{not-true, not-false}
 use Rattle.pad_rows.proofs.Back.{before-apart, before-padded, before-bare}

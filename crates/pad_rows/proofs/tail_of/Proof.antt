@@ -1,17 +1,18 @@
--- `pad_rows::tail_of`: before each block the rows have all from its start on, since a block leads on exactly if its end does. Assumes nothing.
+-- `pad_rows::tail_of`: before each block the rows have all from its start on, since a block leads on exactly if its end
+-- does. Assumes nothing.
 use mathlib.Core.Path.{_≡_, ap, _∙_}
 use mathlib.Core.Logic.{⊎-elim}
-use Prim.Native.Nat.{_+_, _-_, _/_, _≤_, _<_}
+use Prim.Native.Nat.{_+_, _-_, _≤_, _<_}
 use native.Mathlib.Omega.{arith}
-use lib.ListN.{length}
 use Rattle.sets.specs.Set.{setOf}
 use Rattle.sets.proofs.Exact.{exactly-at}
-use Rattle.shapes.specs.Shape.{Block, total}
+use Rattle.shapes.specs.Shape.{Block, total, blockCount}
 use Rattle.shapes.specs.Lent.{shapeOf}
 use Rattle.row_lay.specs.Lay.{start}
 use Rattle.row_lay.proofs.Laid.{total-zero, total-all}
 use Rattle.pads.specs.Pad.{paddedAt}
 use Rattle.pads.proofs.Paths.{ended}
+use Rattle.rows.specs.Row.{rowCount}
 use Rattle.pad_rows.proofs.Back.{TailsFrom, takes-some, takes-none, tails-end, tails-more, tails-all}
 use Rattle.pad_rows.proofs.Lent.{base-end, block-rows, block-fits, start-next}
 use borrow.Author.Needs.{needs}
@@ -59,7 +60,7 @@ block-at-requires c κs = search needs
 -- each block has its rows
 room : (c : tie.In-loop Inv-loop μ-loop) → let s = c .before .before .before .before .before .before .before .before .before .before in
     let j = c .before .loop .j in
-    (j - 1 < length (s .args .zones .now) / 4) × (j - 1 < length (s .args .ends .now) / 4) × (j - 1 < length (s .args .slots .now) / 4)
+    (j - 1 < rowCount (s .args .zones .now)) × (j - 1 < rowCount (s .args .ends .now)) × (j - 1 < rowCount (s .args .slots .now))
 room c = let s = c .before .before .before .before .before .before .before .before .before .before in (omega arith, omega arith, omega arith)
 
 row-at-requires : tie.Need-row-at-requires Inv-loop μ-loop
@@ -87,7 +88,7 @@ loop-again c =
     let l = b .before .before in
     let s = l .before .before .before .before .before .before .before .before .before in
     let y = s .args .y .now in
-    let small : l .loop .j - 1 < length y / 4 = omega arith in
+    let small : l .loop .j - 1 < blockCount y = omega arith in
     let rows = block-rows (s .args .y .now) small (setOf (s .args .pad)) (s .pre .1 .0) (m .before .before .before .row-at .ensures) (m .before .before .row-at2 .ensures)
     (m .before .row-at3 .ensures) (ap (λ (x : Block). x .base) (b .block-at .ensures .0)) (m .meets .ensures) in
     let e : l .loop .j ≡ l .loop .j - 1 + 1 = omega arith in

@@ -1,10 +1,10 @@
--- `pad_rows::trail`: before each block the row has all that it leads to up to the block's start, since nothing crosses that; past the end nothing moves. Assumes nothing.
+-- `pad_rows::trail`: before each block the row has all that it leads to up to the block's start, since nothing crosses
+-- that; past the end nothing moves. Assumes nothing.
 use mathlib.Core.Path.{ap}
-use Prim.Native.Nat.{_-_, _/_, _≤_, _<_}
+use Prim.Native.Nat.{_-_, _≤_, _<_}
 use native.Mathlib.Omega.{arith}
-use lib.ListN.{length}
 use Rattle.sets.specs.Set.{setOf, Exactly}
-use Rattle.shapes.specs.Shape.{Block}
+use Rattle.shapes.specs.Shape.{Block, blockCount}
 use Rattle.shapes.specs.Lent.{shapeOf}
 use Rattle.row_lay.specs.Lay.{start}
 use Rattle.row_lay.proofs.Laid.{total-zero, total-all}
@@ -55,7 +55,7 @@ loop-again c =
     let b = m .before .before .before .before in
     let l = b .before .before in
     let s = l .before .before .before .before .before in
-    let small : l .loop .j < length (s .args .y .now) / 4 = omega arith in
+    let small : l .loop .j < blockCount (s .args .y .now) = omega arith in
     let rows = block-rows (s .args .y .now) small (setOf (s .args .pad)) (s .pre .1 .0) (m .before .before .before .row-at .ensures) (m .before .before .row-at2 .ensures)
     (m .before .row-at3 .ensures) (ap (λ (x : Block). x .base) (b .block-at .ensures .0)) (m .meets .ensures) in
     (omega arith, trail-more rows (l .loop .inv .1) (start-next (s .args .y .now) small) (c .trail-block .ensures))

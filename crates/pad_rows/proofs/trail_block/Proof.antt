@@ -1,5 +1,5 @@
--- `pad_rows::trail_block`: from the first position of the row in the block padding leads to all that come after it, and without padding a run that may end leads to its end.
--- Assumes nothing.
+-- `pad_rows::trail_block`: from the first position of the row in the block padding leads to all that come after it, and
+-- without padding a run that may end leads to its end. Assumes nothing.
 use Rattle.pad_rows.proofs.Forth.{over-apart, over-taken, over-quit, over-not}
 use borrow.Author.Needs.{needs}
 use Rattle.pad_rows.proofs.trail_block.Statement.{statement}

@@ -1,8 +1,8 @@
 -- `pair_checks::check_narrow`: the shapes, then the room. Assumes nothing.
 use mathlib.Core.Path.{subst}
 use borrow.Author.Needs.{needs}
+use Rattle.answers.specs.Turns.{here}
 use Rattle.pairs.specs.Pair.{PairChecked}
-use Rattle.pairs.specs.Pair.NarrowRefused.{shapes}
 use Rattle.pair_checks.proofs.check_narrow.Statement.{statement}
 use Rattle.pair_checks.proofs.check_narrow.Tie as tie
 
@@ -22,7 +22,7 @@ check-room-requires c κs =
 returns : tie.Need-returns
 returns c =
     let a = c .before .before .before .before .before .before .args in
-    shapes (subst (PairChecked (a .x .now) (a .y .now)) (c .before .r .given .1) (c .before .before .before .check-pair .ensures))
+    here (subst (PairChecked (a .x .now) (a .y .now)) (c .before .r .given .1) (c .before .before .before .check-pair .ensures))
 
 returns-2 : tie.Need-returns-2
 returns-2 c = search needs

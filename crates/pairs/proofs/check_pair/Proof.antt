@@ -1,8 +1,8 @@
 -- `pairs::check_pair`: the first shape, then the second. Assumes nothing.
 use mathlib.Core.Path.{subst}
 use borrow.Author.Needs.{needs}
+use Rattle.answers.specs.Turns.{here}
 use Rattle.shapes.specs.Lent.{ShapeChecked}
-use Rattle.pairs.specs.Pair.PairRefused.{first}
 use Rattle.pairs.proofs.Pair.{second-checked}
 use Rattle.pairs.proofs.check_pair.Statement.{statement}
 use Rattle.pairs.proofs.check_pair.Tie as tie
@@ -20,7 +20,7 @@ check-lent-requires-2 : tie.Need-check-lent-requires-2
 check-lent-requires-2 c κs = search needs
 
 returns : tie.Need-returns
-returns c = let a = c .before .before .before .before .before .before .args in first (subst (ShapeChecked 1 (a .x .now)) (c .before .r .given .1) (c .before .before .before .check-lent .ensures))
+returns c = let a = c .before .before .before .before .before .before .args in here (subst (ShapeChecked 1 (a .x .now)) (c .before .r .given .1) (c .before .before .before .check-lent .ensures))
 
 returns-2 : tie.Need-returns-2
 returns-2 c =

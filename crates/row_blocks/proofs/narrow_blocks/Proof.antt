@@ -1,10 +1,10 @@
 -- `row_blocks::narrow_blocks`: the blocks before block i are what is told of them, and end at p. Assumes nothing.
 use mathlib.Core.Path.{_≡_, sym, ap}
-use Prim.Native.Nat.{_+_, _-_, _/_, _≤_}
+use Prim.Native.Nat.{_+_, _-_, _≤_}
 use native.Mathlib.Omega.{arith}
-use lib.ListN.{length, take}
+use lib.ListN.{take}
 use Rattle.sets.specs.Set.{setOf}
-use Rattle.shapes.specs.Shape.{Block, total}
+use Rattle.shapes.specs.Shape.{Block, total, blockCount}
 use Rattle.shapes.specs.Lent.{shapeOf}
 use Rattle.row_lay.proofs.Laid.{total-zero, total-more, upper-within}
 use Rattle.row_blocks.specs.Blocks.{ToldTo}
@@ -15,7 +15,7 @@ use Rattle.row_blocks.proofs.narrow_blocks.Tie as tie
 
 abbrev Inv-loop : tie.InvT-loop
 Inv-loop x chars quit moved out₀ n p₀ i₀ out p i =
-    (n ≡ length x / 4) × (i ≤ n) × (p ≡ total (take i (shapeOf x))) × ToldTo chars (setOf quit) (setOf moved) x i out₀ out
+    (n ≡ blockCount x) × (i ≤ n) × (p ≡ total (take i (shapeOf x))) × ToldTo chars (setOf quit) (setOf moved) x i out₀ out
 
 abbrev μ-loop : tie.MeasureT-loop
 μ-loop x chars quit moved out₀ n p₀ i₀ out p i = n - i
@@ -86,7 +86,7 @@ same-length : tie.Need-same-length Inv-loop μ-loop
 same-length c = c .before .loop .inv .3 .long
 
 returns : tie.Need-returns Inv-loop μ-loop
-returns c = let l = c .before .loop in told-to (let e : l .i ≡ length (c .before .before .before .before .before .args .x .now) / 4 = omega arith in e) (l .inv .3)
+returns c = let l = c .before .loop in told-to (let e : l .i ≡ blockCount (c .before .before .before .before .before .args .x .now) = omega arith in e) (l .inv .3)
 
 pub narrow-blocks-spec : {M : Type 1} → statement M
 narrow-blocks-spec =

@@ -1,9 +1,11 @@
--- `row_blocks::told`: the early ends within the block, and whether its last character is taken, tell the lengths. Assumes nothing.
+-- `row_blocks::told`: the early ends within the block, and whether its last character is taken, tell the lengths.
+-- Assumes nothing.
 use Prim.Native.Nat.{_+_, _^_, _≤_, _<_}
 use native.Mathlib.Omega.{arith}
-use Rattle.bases.specs.Base.{Holds}
+use Rattle.bases.specs.Base.{Holds, codes}
 use Rattle.sets.specs.Set.{setOf, Exactly}
-use Rattle.row_blocks.proofs.Blocks.{cut-small, held-of, told-full, told-both, told-early}
+use Rattle.bases.proofs.Sets.{cut-small}
+use Rattle.row_blocks.proofs.Blocks.{held-of, told-full, told-both, told-early}
 use borrow.Author.Needs.{needs}
 use Rattle.row_blocks.proofs.told.Statement.{statement}
 use Rattle.row_blocks.proofs.told.Tie as tie
@@ -29,8 +31,8 @@ ends : (c : tie.After-both2)
 ends c = held-of _ _ (c .both2 .ensures) (c .before .between .ensures)
 
 -- the base is what the characters leave of it, and as small
-small : (c : tie.After-both) → setOf (c .both .result) < 2 ^ 128
-small c = cut-small _ _ (c .both .ensures) (c .before .pre .0)
+small : (c : tie.After-both) → setOf (c .both .result) < 2 ^ codes
+small c = cut-small codes _ _ (c .both .ensures) (c .before .pre .0)
 
 returns : tie.Need-returns
 returns c =

@@ -1,11 +1,12 @@
 -- `row_lay::lay`: the rows before row j are those of the blocks before block j, which end at p. Assumes nothing.
 use mathlib.Core.Path.{_≡_, refl, sym, ap, _∙_}
-use Prim.Native.Nat.{_+_, _-_, _/_, _^_, _≤_, _<_}
+use Prim.Native.Nat.{_+_, _-_, _^_, _≤_, _<_}
 use native.Mathlib.Omega.{arith}
 use lib.ListN.{length, take}
-use Rattle.shapes.specs.Shape.{Block, noBlock, total}
+use Rattle.shapes.specs.Shape.{Block, noBlock, total, blockCount}
 use Rattle.shapes.specs.Lent.{shapeOf}
 use Rattle.shapes.proofs.Lent.{shape-length, shape-at, block-sound}
+use Rattle.rows.specs.Row.{rowCount}
 use Rattle.row_lay.specs.Lay.{LayTo}
 use Rattle.row_lay.proofs.Laid.{total-zero, total-more, total-all, upper-within, lay-none, lay-more, lay-to}
 use borrow.Author.Needs.{needs}
@@ -14,7 +15,7 @@ use Rattle.row_lay.proofs.lay.Tie as tie
 
 abbrev Inv-loop : tie.InvT-loop
 Inv-loop shape zones₀ ends₀ slots₀ n p₀ j₀ zones ends slots p j =
-    (n ≡ length shape / 4) × (j ≤ n) × (p ≡ total (take j (shapeOf shape))) × LayTo (shapeOf shape) j zones ends slots
+    (n ≡ blockCount shape) × (j ≤ n) × (p ≡ total (take j (shapeOf shape))) × LayTo (shapeOf shape) j zones ends slots
     × (length zones ≡ length zones₀) × (length ends ≡ length ends₀) × (length slots ≡ length slots₀)
 
 abbrev μ-loop : tie.MeasureT-loop
@@ -53,7 +54,7 @@ between-requires c κs = let h = within (c .before) in (omega arith, omega arith
 
 -- there is room for row j
 room : (c : tie.In-loop Inv-loop μ-loop)
-    → let l = c .before .loop in (l .j < length (l .zones) / 4) × (l .j < length (l .ends) / 4) × (l .j < length (l .slots) / 4) × (l .j < 2 ^ 62)
+    → let l = c .before .loop in (l .j < rowCount (l .zones)) × (l .j < rowCount (l .ends)) × (l .j < rowCount (l .slots)) × (l .j < 2 ^ 62)
 room c =
     let l = c .before .loop in
     let s = c .before .before .before .before .before .before in

@@ -1,6 +1,7 @@
--- `row_steps::back`: after each step the row is closed under those from it on, and `quit` has from where these lead into it. Assumes nothing.
+-- `row_steps::back`: after each step the row is closed under those from it on, and `quit` has from where these lead
+-- into it. Assumes nothing.
 use mathlib.Core.Path.{_≡_, refl}
-use Prim.Native.Nat.{_-_, _≤_}
+use Prim.Native.Nat.{_≤_}
 use native.Mathlib.Omega.{arith}
 use Rattle.bases.specs.Base.{Meets}
 use Rattle.sets.specs.Set.{setOf, Exactly}

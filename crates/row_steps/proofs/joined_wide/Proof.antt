@@ -1,4 +1,5 @@
--- `row_steps::joined_wide`: the bases picked among the blocks before j, and that of j where its row meets the row. Assumes nothing.
+-- `row_steps::joined_wide`: the bases picked among the blocks before j, and that of j where its row meets the row.
+-- Assumes nothing.
 use mathlib.Core.Path.{_≡_, ap, _∙_}
 use mathlib.Core.Logic.{⊎-elim}
 use Prim.Native.Nat.{_-_, _≤_}

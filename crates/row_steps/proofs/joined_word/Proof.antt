@@ -1,5 +1,6 @@
--- `row_steps::joined_word`: the bases picked among the blocks before j, and that of j where its row meets the row. Assumes nothing.
-use mathlib.Core.Path.{_≡_, ap, _∙_}
+-- `row_steps::joined_word`: the bases picked among the blocks before j, and that of j where its row meets the row.
+-- Assumes nothing.
+use mathlib.Core.Path.{_≡_, ap}
 use Prim.Native.Nat.{_-_, _≤_}
 use native.Mathlib.Omega.{arith}
 use Rattle.bases.specs.Base.{Meets}

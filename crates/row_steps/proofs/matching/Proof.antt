@@ -1,4 +1,5 @@
--- `row_steps::matching`: the rows picked among the blocks before j, and that of j where its base meets the base. Assumes nothing.
+-- `row_steps::matching`: the rows picked among the blocks before j, and that of j where its base meets the base.
+-- Assumes nothing.
 use mathlib.Core.Path.{_≡_, ap, _∙_}
 use mathlib.Core.Logic.{⊎-elim}
 use Prim.Native.Nat.{_-_, _≤_}

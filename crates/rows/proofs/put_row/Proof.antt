@@ -1,8 +1,10 @@
 -- `rows::put_row`: four words are set. Assumes nothing.
+use mathlib.Core.Path.{refl}
+use native.Mathlib.Numerals.{towards-suc}
 use native.Mathlib.Omega.{arith}
 use lib.ListN.{length-set}
 use Rattle.sets.specs.Set.{setOf}
-use Rattle.rows.proofs.Rows.{put-four}
+use Rattle.rows.proofs.Rows.{put-words}
 use borrow.Author.Needs.{needs}
 use Rattle.rows.proofs.put_row.Statement.{statement}
 use Rattle.rows.proofs.put_row.Tie as tie
@@ -50,7 +52,7 @@ same-length c = search needs
 
 returns : tie.Need-returns
 unfolding setOf
-returns c = put-four _ _ _ _ _ _ (c .pre)
+returns c = simp towards-suc (put-words _ _ _ refl (c .pre))
 
 pub put-row-spec : {M : Type 1} → statement M
 put-row-spec =

@@ -1,5 +1,5 @@
 -- `rows::row_at`: four words are read. Assumes nothing.
-use mathlib.Core.Path.{refl}
+use native.Mathlib.Numerals.{towards-suc}
 use Rattle.sets.specs.Set.{setOf}
 use borrow.Author.Needs.{needs}
 use Rattle.rows.proofs.row_at.Statement.{statement}
@@ -45,7 +45,7 @@ shared-slice-read-t18 c = search needs
 
 returns : tie.Need-returns
 unfolding setOf
-returns c = refl
+returns c = simp towards-suc
 
 pub row-at-spec : {M : Type 1} → statement M
 row-at-spec =

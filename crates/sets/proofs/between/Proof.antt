@@ -2,7 +2,7 @@
 use mathlib.Core.Logic.{⊎-elim}
 use native.Mathlib.Omega.{arith}
 use borrow.Author.Needs.{needs}
-use Rattle.bases.proofs.Plain.{lt-or-le}
+use Rattle.plain.proofs.Plain.{lt-or-le}
 use Rattle.sets.proofs.Exact.{exactly-as}
 use Rattle.sets.proofs.between.Statement.{statement}
 use Rattle.sets.proofs.between.Tie as tie

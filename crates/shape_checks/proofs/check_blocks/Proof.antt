@@ -1,13 +1,14 @@
 -- `shape_checks::check_blocks`: the first bad block, then the total. Assumes nothing.
-use mathlib.Core.Path.{_≡_, refl, subst}
+use mathlib.Core.Path.{_≡_, subst}
 use native.Mathlib.Omega.{arith}
 use borrow.Author.Needs.{needs}
+use Rattle.answers.specs.Turns.{here, later}
 use Rattle.answers.specs.declared.Checked.{Checked}
-use Rattle.shapes.specs.All.{All}
+use Rattle.answers.proofs.Turns.{lacks}
+use Rattle.plain.specs.All.{All}
 use Rattle.shapes.specs.Shape.{Sound}
 use Rattle.shapes.specs.Lent.{shapeOf}
 use Rattle.shapes.specs.Code.{EachChecked}
-use Rattle.shapes.specs.Lent.BlocksRefused.{wrong-block, too-long}
 use Rattle.shapes.proofs.Lent.{shape-length, sound-total}
 use Rattle.shape_checks.proofs.check_blocks.Statement.{statement}
 use Rattle.shape_checks.proofs.check_blocks.Tie as tie
@@ -33,10 +34,10 @@ total-upper-requires : tie.Need-total-upper-requires
 total-upper-requires c κs = let t = sound-total (sound c) in let l = shape-length (c .before .before .before .before .args .shape .now) in let f = c .before .before .before .before .pre in omega arith
 
 returns : tie.Need-returns
-returns c = too-long (sound (c .before .before)) (let e = c .before .total-upper .ensures in let h = c .if1 .taken in omega arith) refl
+returns c = later (sound (c .before .before)) (here (lacks (λ l. let e = c .before .total-upper .ensures in let h = c .if1 .taken in omega arith)))
 
 returns-2 : tie.Need-returns-2
-returns-2 c = let f = checked (c .before .before .before) (c .before .r .given .1) in wrong-block (f .0) (f .1)
+returns-2 c = here (checked (c .before .before .before) (c .before .r .given .1))
 
 returns-3 : tie.Need-returns-3
 returns-3 c = (sound (c .before .before), let e = c .before .total-upper .ensures in let h = c .if1 .left in omega arith)

@@ -1,16 +1,15 @@
 -- `shape_checks::check_each`: every block passed is sound. Assumes nothing.
 use mathlib.Core.Path.{_≡_, subst}
 use mathlib.Core.List.{List}
-use Prim.Native.Nat.{ℕ, _+_, _-_, _/_, _≤_, _<_}
+use Prim.Native.Nat.{ℕ, _+_, _-_, _≤_, _<_}
 use native.Mathlib.Omega.{arith}
 use borrow.Author.Count.{below-more}
 use borrow.Author.Needs.{needs}
-use lib.ListN.{length}
 use Rattle.answers.specs.Told.{told}
 use Rattle.answers.specs.declared.Refusal.{Refusal}
 use Rattle.answers.specs.declared.Checked.{Checked}
 use Rattle.answers.specs.declared.Checked.the-variants.{Sound as is-sound, Refused}
-use Rattle.shapes.specs.Shape.{Block, Sound}
+use Rattle.shapes.specs.Shape.{Block, Sound, blockCount}
 use Rattle.shapes.specs.Wrong.{BlockChecked}
 use Rattle.shapes.specs.Lent.{blockAt, shapeOf, FirstBlock}
 use Rattle.shapes.proofs.Lent.{all-sound, first-block}
@@ -18,7 +17,7 @@ use Rattle.shape_checks.proofs.check_each.Statement.{statement}
 use Rattle.shape_checks.proofs.check_each.Tie as tie
 
 abbrev Inv-loop : tie.InvT-loop
-Inv-loop shape number n i₀ i = (n ≡ length shape / 4) × (i ≤ n) × ((j : ℕ) → j < i → Sound (blockAt shape j))
+Inv-loop shape number n i₀ i = (n ≡ blockCount shape) × (i ≤ n) × ((j : ℕ) → j < i → Sound (blockAt shape j))
 
 abbrev μ-loop : tie.MeasureT-loop
 μ-loop shape number n i₀ i = n - i

@@ -1,20 +1,23 @@
 -- `shape_checks::check_lent`: the length first, then the blocks. Assumes nothing.
-use mathlib.Core.Path.{refl}
 use native.Mathlib.Omega.{arith}
 use borrow.Author.Needs.{needs}
-use Rattle.shapes.specs.Lent.ShapeRefused.{wrong-length}
+use Rattle.answers.specs.Turns.{here}
+use Rattle.answers.proofs.Turns.{lacks}
 use Rattle.shapes.proofs.Refused.{blocks-then}
 use Rattle.shape_checks.proofs.check_lent.Statement.{statement}
 use Rattle.shape_checks.proofs.check_lent.Tie as tie
 
 returns : tie.Need-returns
-returns c = wrong-length (λ r. c .if1 .taken (r .whole)) refl
+returns c = here (lacks (λ r. c .if1 .taken (r .whole)))
 
 returns-2 : tie.Need-returns-2
-returns-2 c = wrong-length (λ r. let h = r .some in let z = c .if2 .taken in omega arith) refl
+returns-2 c = here (lacks (λ r. let h = r .some in let z = c .if2 .taken in omega arith))
+
+mul-if3 : tie.Need-mul-if3
+mul-if3 c = search needs
 
 returns-3 : tie.Need-returns-3
-returns-3 c = wrong-length (λ r. let h = r .few in let w = r .whole in let z = c .if3 .taken in omega arith) refl
+returns-3 c = here (lacks (λ r. let h = r .few in let w = r .whole in let z = c .if3 .taken in omega arith))
 
 check-blocks-requires : tie.Need-check-blocks-requires
 check-blocks-requires c κs = search needs
@@ -31,4 +34,4 @@ returns-4 c =
     (c .check-blocks .ensures)
 
 pub check-lent-spec : {M : Type 1} → statement M
-check-lent-spec = tie.close (tie.spec returns returns-2 returns-3 check-blocks-requires returns-4)
+check-lent-spec = tie.close (tie.spec returns returns-2 mul-if3 returns-3 check-blocks-requires returns-4)

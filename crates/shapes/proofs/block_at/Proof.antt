@@ -1,5 +1,10 @@
 -- `shapes::block_at`: two words are the base, then lower and upper. Assumes nothing.
-use Rattle.sets.proofs.Four.{two-words-bound}
+use mathlib.Core.Path.{sym, subst}
+use Prim.Native.Nat.{ℕ, _^_, _<_}
+use native.Mathlib.Numerals.{towards-suc}
+use Rattle.plain.specs.All.All.{none, more}
+use Rattle.bases.specs.Base.{codes}
+use Rattle.bases.proofs.Words.{words-bound}
 use Rattle.shapes.proofs.Put.{of-base}
 use borrow.Author.Needs.{needs}
 use Rattle.shapes.proofs.block_at.Statement.{statement}
@@ -50,7 +55,8 @@ shared-slice-read-t19 c = search needs
 returns : tie.Need-returns
 returns c =
     let base = c .before .before .two-words .ensures in
-    (of-base base, two-words-bound _ _ (c .shared-slice-known5 .given _ .fits) (c .shared-slice-known5 .given _ .fits) base)
+    let word = c .shared-slice-known5 .given in
+    (simp towards-suc (of-base (simp towards-suc at base)), subst (λ (n : ℕ). n < 2 ^ codes) (sym base) (words-bound (more (word _ .fits) (more (word _ .fits) none))))
 
 pub block-at-spec : {M : Type 1} → statement M
 block-at-spec =

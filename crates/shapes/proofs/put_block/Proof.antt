@@ -1,4 +1,5 @@
--- `shapes::put_block`: four numbers are set; a base of characters below 128 is its first two words. Assumes nothing.
+-- `shapes::put_block`: its numbers are set; a base of characters that there are is its first words. Assumes nothing.
+use native.Mathlib.Numerals.{towards-suc}
 use native.Mathlib.Omega.{arith}
 use lib.ListN.{length-set}
 use Rattle.shapes.proofs.Put.{put-carried}
@@ -48,7 +49,7 @@ same-length : tie.Need-same-length
 same-length c = search needs
 
 returns : tie.Need-returns
-returns c = put-carried _ _ _ _ _ (search needs) (c .pre .1) (c .pre .0)
+returns c = simp towards-suc (put-carried _ _ _ _ _ (search needs) (c .pre .1) (c .pre .0))
 
 pub put-block-spec : {M : Type 1} → statement M
 put-block-spec =

@@ -1,10 +1,10 @@
 -- `shapes::total_upper`: what is added so far and what is still ahead make the total. Assumes nothing.
 use mathlib.Core.Path.{_≡_, ap}
 use native.Mathlib.Nat.{zero-add}
-use Prim.Native.Nat.{_+_, _-_, _/_, _≤_}
+use Prim.Native.Nat.{_+_, _-_, _≤_}
 use native.Mathlib.Omega.{arith}
-use lib.ListN.{length, drop}
-use Rattle.shapes.specs.Shape.{Block, total}
+use lib.ListN.{drop}
+use Rattle.shapes.specs.Shape.{Block, total, blockCount}
 use Rattle.shapes.specs.Lent.{shapeOf}
 use Rattle.shapes.proofs.Lent.{total-from, total-none}
 use borrow.Author.Needs.{needs}
@@ -12,7 +12,7 @@ use Rattle.shapes.proofs.total_upper.Statement.{statement}
 use Rattle.shapes.proofs.total_upper.Tie as tie
 
 abbrev Inv-loop : tie.InvT-loop
-Inv-loop shape n sum₀ i₀ sum i = (n ≡ length shape / 4) × (i ≤ n) × (sum + total (drop i (shapeOf shape)) ≡ total (shapeOf shape))
+Inv-loop shape n sum₀ i₀ sum i = (n ≡ blockCount shape) × (i ≤ n) × (sum + total (drop i (shapeOf shape)) ≡ total (shapeOf shape))
 
 abbrev μ-loop : tie.MeasureT-loop
 μ-loop shape n sum₀ i₀ sum i = n - i

@@ -1,4 +1,5 @@
--- `streams::read_input` meets its contract and ends: each turn reads at least one byte, and the count stays within the buffer. Assumes nothing.
+-- `streams::read_input` meets its contract and ends: each turn reads at least one byte, and the count stays within the
+-- buffer. Assumes nothing.
 use borrow.Author.Needs.{needs}
 use Prim.Native.Nat.{_-_, _≤_}
 use mathlib.Core.Path.{_≡_, sym, subst}

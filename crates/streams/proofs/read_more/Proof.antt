@@ -1,4 +1,5 @@
--- `streams::read_more`: the read is lent only what lies behind the bytes read so far, and gives no more bytes than there is room for. Assumes nothing.
+-- `streams::read_more`: the read is lent only what lies behind the bytes read so far, and gives no more bytes than
+-- there is room for. Assumes nothing.
 use borrow.Author.Needs.{needs}
 use borrow.Rule.Slice.PartMut.{same-len-mid, mid-len, take-put}
 use Prim.Native.Nat.{ℕ, _+_, _-_, _≤_}

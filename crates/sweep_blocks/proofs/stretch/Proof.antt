@@ -1,13 +1,14 @@
 -- `sweep_blocks::stretch`: the loop keeps what the rest of the definition's loop comes to. Assumes nothing.
 use mathlib.Core.Path.{_≡_, sym, ap, _∙_}
 use mathlib.Core.List.{List, reverse}
-use Prim.Native.Nat.{ℕ, _+_, _-_, _/_, _≤_}
+use Prim.Native.Nat.{ℕ, _+_, _-_, _≤_}
 use native.Mathlib.Omega.{arith}
 use borrow.Author.Needs.{needs}
 use lib.ListN.{length, length-reverse}
 use Rattle.shapes.specs.Lent.{meant, shapeOf}
 use Rattle.sweep_steps.specs.Places.{at, nth}
 use Rattle.shapes.proofs.Lent.{shape-length}
+use Rattle.shapes.specs.Shape.{blockCount}
 use Rattle.sweep_blocks.proofs.Turn.{StretchKept, stretch-begins, stretch-past, stretch-ended, stretch-went-on, nth-reverse}
 use Rattle.sweep_blocks.proofs.stretch.Statement.{statement}
 use Rattle.sweep_blocks.proofs.stretch.Tie as tie
@@ -19,10 +20,10 @@ abbrev μ-loop : tie.MeasureT-loop
 μ-loop s y m k₀ i₀ o₀ looks₀ k i o looks = m + 1 - i .0
 
 -- the reversed shape has as many blocks, and block i of it is the one that the code reads
-turned-length : (y : List ℕ) → length (reverse (shapeOf y)) ≡ length y / 4
+turned-length : (y : List ℕ) → length (reverse (shapeOf y)) ≡ blockCount y
 turned-length y = length-reverse (shapeOf y) ∙ shape-length y
 
-turned-block : (y : List ℕ) (i : ℕ) → 1 ≤ i → i ≤ length y / 4 → nth (shapeOf y) (length y / 4 + 1 - i) ≡ nth (reverse (shapeOf y)) i
+turned-block : (y : List ℕ) (i : ℕ) → 1 ≤ i → i ≤ blockCount y → nth (shapeOf y) (blockCount y + 1 - i) ≡ nth (reverse (shapeOf y)) i
 turned-block y i l h =
     let m = shape-length y in
     ap (λ (n : ℕ). nth (shapeOf y) (n + 1 - i)) (sym m) ∙ nth-reverse (shapeOf y) i l (omega arith)

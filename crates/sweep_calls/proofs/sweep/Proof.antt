@@ -2,9 +2,10 @@
 use mathlib.Core.Path.{refl, subst}
 use native.Mathlib.Omega.{arith}
 use borrow.Author.Needs.{needs}
+use Rattle.answers.specs.Turns.{here, later}
+use Rattle.answers.proofs.Turns.{lacks}
 use Rattle.shapes.proofs.Lent.{shape-length}
 use Rattle.pairs.specs.Pair.{PairAccepted, PairChecked}
-use Rattle.sweep_calls.specs.Sweep.SweepRefused.{shapes, output}
 use Rattle.sweep_calls.proofs.Sweeping.{promised}
 use Rattle.sweep_calls.proofs.sweep.Statement.{statement}
 use Rattle.sweep_calls.proofs.sweep.Tie as tie
@@ -29,7 +30,7 @@ accepted c =
 returns : tie.Need-returns
 returns c =
     let a = c .before .before .before .before .before .before .before .args in
-    (output (accepted (c .before)) (let l = shape-length (a .x .now) in let h = c .if1 .taken in omega arith) refl, refl)
+    (later (accepted (c .before)) (here (lacks (λ r. let l = shape-length (a .x .now) in let h = c .if1 .taken in omega arith))), refl)
 
 sweep-shapes-requires : tie.Need-sweep-shapes-requires
 sweep-shapes-requires c κs =
@@ -39,7 +40,7 @@ sweep-shapes-requires c κs =
 returns-2 : tie.Need-returns-2
 returns-2 c =
     let a = c .before .before .before .before .before .before .before .args in
-    (shapes (subst (PairChecked (a .x .now) (a .y .now)) (c .before .r .given .1) (c .before .before .before .check-pair .ensures)), refl)
+    (here (subst (PairChecked (a .x .now) (a .y .now)) (c .before .r .given .1) (c .before .before .before .check-pair .ensures)), refl)
 
 same-length : tie.Need-same-length
 same-length c = search needs

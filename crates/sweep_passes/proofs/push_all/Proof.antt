@@ -1,6 +1,6 @@
 -- `sweep_passes::push_all`: the starts so far are kept in front, the stretched places behind. Assumes nothing.
 use mathlib.Core.Path.{_≡_, ap}
-use Prim.Native.Nat.{ℕ, _+_, _-_, _*_, _/_, _≤_, _<_}
+use Prim.Native.Nat.{ℕ, _+_, _-_, _*_, _≤_, _<_}
 use native.Mathlib.Omega.{arith}
 use borrow.Author.Needs.{needs}
 use lib.ListN.{length, length-set}
@@ -8,6 +8,7 @@ use Rattle.shapes.specs.Lent.{shapeOf}
 use Rattle.sweep_steps.specs.Places.{numberOf, later}
 use Rattle.sweep_steps.specs.declared.Place.{Place}
 use Rattle.sweep_steps.proofs.Looks.{later-block}
+use Rattle.shapes.specs.Shape.{blockCount}
 use Rattle.sweep_passes.specs.Read.{passed}
 use Rattle.shapes.proofs.Lent.{shape-length}
 use Rattle.sweep_passes.proofs.Kept.{PushesKept, pushed-within, pushes-begin, pushes-stuck, pushes-turn, pushes-end, never, written}
@@ -113,7 +114,7 @@ same-length-2 : tie.Need-same-length-2 Inv-loop μ-loop
 same-length-2 c = c .before .loop .inv .long
 
 returns-2 : tie.Need-returns-2 Inv-loop μ-loop
-returns-2 c = let a = c .before .before .before .before .before .args in let k = c .before .loop .inv in let n = shape-length (a .x .now) in let t = c .loop-test .left in let u = k .upto in let e = pushes-end _ _ _ _ _ _ _ k (omega arith) in (ap passed (e .0), λ qs l g. written _ _ _ _ _ (c .before .loop .i) _ (a .kept .now) (2 * (length (a .x .now) / 4)) (omega arith) (e .0) g (e .1))
+returns-2 c = let a = c .before .before .before .before .before .args in let k = c .before .loop .inv in let n = shape-length (a .x .now) in let t = c .loop-test .left in let u = k .upto in let e = pushes-end _ _ _ _ _ _ _ k (omega arith) in (ap passed (e .0), λ qs l g. written _ _ _ _ _ (c .before .loop .i) _ (a .kept .now) (2 * (blockCount (a .x .now))) (omega arith) (e .0) g (e .1))
 
 pub push-all-spec : {M : Type 1} → statement M
 push-all-spec =

@@ -1,12 +1,13 @@
 -- `sweep_passes::stretch_all`: the places of the blocks from i on are kept, and the end reached. Assumes nothing.
 use mathlib.Core.Path.{sym}
-use Prim.Native.Nat.{ℕ, _*_, _/_, _≤_}
+use Prim.Native.Nat.{ℕ, _*_, _≤_}
 use native.Mathlib.Omega.{arith}
 use lib.ListN.{length, length-set}
 use Rattle.shapes.specs.Lent.{shapeOf}
 use Rattle.sweep_steps.specs.Places.{numberOf}
 use Rattle.sweep_steps.specs.declared.Place.{Place}
 use Rattle.shapes.proofs.Lent.{shape-length}
+use Rattle.shapes.specs.Shape.{blockCount}
 use Rattle.sweep_passes.proofs.Kept.{StretchesKept, stretches-begin, stretches-within, stretched-within, stretches-turn, stretches-end}
 use Rattle.sweep_passes.proofs.stretch_all.Statement.{statement}
 use Rattle.sweep_passes.proofs.stretch_all.Tie as tie
@@ -26,7 +27,7 @@ record Room (n i looks len : ℕ) (reached : Place) : Type 0 where
   first : 1 ≤ numberOf reached
   counted : looks ≤ 64
 
-room : (c : tie.In-loop Inv-loop μ-loop) → Room (length (c .before .before .before .before .before .args .x .now) / 4) (c .before .loop .i) (c .before .loop .looks) (length (c .before .loop .kept)) (c .before .loop .reached)
+room : (c : tie.In-loop Inv-loop μ-loop) → Room (blockCount (c .before .before .before .before .before .args .x .now)) (c .before .loop .i) (c .before .loop .looks) (length (c .before .loop .kept)) (c .before .loop .reached)
 room c =
     let start = c .before .before .before .before .before in
     let k = c .before .loop .inv in

@@ -1,4 +1,5 @@
--- `tray_pairs::inside`: the range does not end before it starts, then it does not reach past the blocks. Assumes nothing.
+-- `tray_pairs::inside`: the range does not end before it starts, then it does not reach past the blocks. Assumes
+-- nothing.
 use mathlib.Core.Bool.{false≢true}
 use Prim.Native.Nat.{_<_}
 use native.Mathlib.Omega.{arith}

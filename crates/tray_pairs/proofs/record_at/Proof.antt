@@ -1,4 +1,5 @@
--- `tray_pairs::record_at`: the pair that is read, the answer that is given, the record that is made of it. Assumes nothing.
+-- `tray_pairs::record_at`: the pair that is read, the answer that is given, the record that is made of it. Assumes
+-- nothing.
 use mathlib.Core.Path.{sym, subst₂}
 use borrow.Author.Needs.{needs}
 use Rattle.tray_pairs.specs.Judged.{Judged}

@@ -1,4 +1,5 @@
--- `tray_pairs::sweep_alone`: the shapes, then both passes; two numbers for each of at most 32 blocks have room in 64. Assumes nothing.
+-- `tray_pairs::sweep_alone`: the shapes, then both passes; two numbers for each of at most 32 blocks have room in 64.
+-- Assumes nothing.
 use mathlib.Core.Path.{subst}
 use native.Mathlib.Omega.{arith}
 use borrow.Author.Needs.{needs}

@@ -1,5 +1,5 @@
--- `trays::sweep_tray` meets its contract: a walk of its MIR, by hand. The borrow of the row is opened once, before the loop, and closed once, after it; each turn calls `record_at` and puts its record into the row.
--- Assumes nothing.
+-- `trays::sweep_tray` meets its contract: a walk of its MIR, by hand. The borrow of the row is opened once, before the
+-- loop, and closed once, after it; each turn calls `record_at` and puts its record into the row. Assumes nothing.
 use mathlib.Core.Path.{_≡_, refl, sym, ap, subst}
 use Prim.Native.Nat.{ℕ, _+_, _*_, _-_, _≤_, _<_, _^_, zero-le}
 use native.Mathlib.Nat.{le-antisymm, lt-of-le-of-lt, lt-of-lt-of-le}
@@ -60,7 +60,7 @@ use Rattle.tray_pairs.proofs.record_at as record-at
 use Rattle.tray_pairs.proofs.record_at.Symbol as record-at-def
 use Rattle.tray_pairs.proofs.record_at.Symbol.{name as #tray-pairs·record-at}
 use Rattle.tray_pairs.proofs.record_at.Met as record-at-thm
-use Rattle.trays.specs.Code.{Ends, Counted}
+use Rattle.trays.specs.Code.{TrayEnds, Counted}
 use Rattle.trays.specs.Tray.{Filled, TrayPromise}
 use Rattle.trays.proofs.Filling.{none-yet, one-more, counted-few, counted-pairs, counted-row, promised}
 use Rattle.trays.proofs.count as count
@@ -199,8 +199,8 @@ module _ {M : Type 1} (𝓤 : URA M) (H : Heap 𝓤) (A : Atoms 𝓤) (W : Given
   goes-end : ent 𝓤 (emp 𝓤) (End 𝓤 H A mem run .pre to-end)
   goes-end = qed W [] ∵ nothing ! $ nothing ! $ nothing ! $ owned ! usize (Is usize) (uint-makes 𝓤 H A W w64) (length ys) _ (refl, room₂ .0) $ fjoin ! $ owned ! usize (Is usize) (uint-makes 𝓤 H A W w64) (length (now x₁)) _ (refl, room₁ .0) $ fjoin ! $ move ! (1 ∷ 0 ∷ []) $ join ! $ frame ! $ done !
 
-  said-end : (r : Tray) → ent 𝓤 (ensured 𝓤 H A ending.ended (ending.clauses 𝓤 H A mem run) tt sizes tt r) (fact 𝓤 (Ends (length (now x₁)) (length ys) r))
-  said-end r = exE 𝓤 _ (λ ws. snd∗ 𝓤 (sem 𝓤 H A (lasts ending.ended tt sizes ws)) (fact 𝓤 (Ends (length (now x₁)) (length ys) r)))
+  said-end : (r : Tray) → ent 𝓤 (ensured 𝓤 H A ending.ended (ending.clauses 𝓤 H A mem run) tt sizes tt r) (fact 𝓤 (TrayEnds (length (now x₁)) (length ys) r))
+  said-end r = exE 𝓤 _ (λ ws. snd∗ 𝓤 (sem 𝓤 H A (lasts ending.ended tt sizes ws)) (fact 𝓤 (TrayEnds (length (now x₁)) (length ys) r)))
 
   -- ---- the loop
   module _ (n : ℕ) (n-fits : n < 2 ^ 64) (counted : Counted (length (now x₁)) (length ys) n) where
@@ -246,7 +246,7 @@ module _ {M : Type 1} (𝓤 : URA M) (H : Heap 𝓤) (A : Atoms 𝓤) (W : Given
           use0 W (raw (End 𝓤 H A mem run .pre to-end)) goes-end $
           calls-at ! (fmOf 𝓤 H (W .laws) 𝓣) (End 𝓤 H A mem run) known-end to-end (and-then ! (load ! (from ! (stop !)) (look ! 19 refl)) (and-then ! (load ! (from ! (stop !)) (look ! 17 refl)) (no-more !))) (λ v.
           use1 W (later (some (λ (r : Tray). (‵ ftrue ⊛ ‵ (Y.the-row .own r (v ∷ []))) ⊛ raw (ensured 𝓤 H A ending.ended (ending.clauses 𝓤 H A mem run) tt sizes tt r)))) (id⊢ 𝓤 _) $ await ! tt $ pick ! (λ r.
-          split ! $ move ! (1 ∷ []) $ use1 W (raw (fact 𝓤 (Ends (length (now x₁)) (length ys) r))) (said-end r) $ heard ! (Ends (length (now x₁)) (length ys) r) (λ e. split ! $ drop ! $
+          split ! $ move ! (1 ∷ []) $ use1 W (raw (fact 𝓤 (TrayEnds (length (now x₁)) (length ys) r))) (said-end r) $ heard ! (TrayEnds (length (now x₁)) (length ys) r) (λ e. split ! $ drop ! $
           peeks ! Y.the-row (Is Y.the-row) (shows 𝓤 H A Y.the-row) r (v ∷ []) (λ is.
           land ! (from ! (stop !)) (init ! 31 refl (LE.lawful Y.the-type Y′.the-laws 𝓤 H A W tt .typed r _ is .0)) $
           -- [what r owns; the row; the open borrow; obs; auth; blocks; pairs; two tokens; the locals]
@@ -271,7 +271,8 @@ module _ {M : Type 1} (𝓤 : URA M) (H : Heap 𝓤) (A : Atoms 𝓤) (W : Given
           split ! $ move ! (1 ∷ []) $ use1 W (raw (fact 𝓤 (Judged (now x₀) (pairAt (now x₁) (t .0)) r))) (said-judge (t .0) r) $ heard ! (Judged (now x₀) (pairAt (now x₁) (t .0)) r) (λ e. split ! $ split ! $ move ! (1 ∷ []) $ split ! $
           -- [a token; true; a token; what r owns; pairs; blocks; the row; the open borrow; obs; auth; the locals]
           move ! (1 ∷ []) $ drop ! $ move ! (2 ∷ 5 ∷ 6 ∷ 7 ∷ 8 ∷ 4 ∷ 3 ∷ 1 ∷ 0 ∷ []) $
-          -- [what r owns; the row; the open borrow; obs; auth; blocks; pairs; two tokens; _11; …; _10; …; _9; …; _8; …; _7; …; _6; …; _5; …; _4; …; _3; …; _2; …; _1; …; room for _0; …]
+          -- [what r owns; the row; the open borrow; obs; auth; blocks; pairs; two tokens; _11; …; _10; …; _9; …; _8; …;
+          -- _7; …; _6; …; _5; …; _4; …; _3; …; _2; …; _1; …; room for _0; …]
           peeks ! T.the-row (Is T.the-row) (shows 𝓤 H A T.the-row) r (v ∷ []) (λ is.
           land ! (from ! (stop !)) (init ! 13 refl (LL.lawful T.the-type T′.the-laws 𝓤 H A W .typed r _ is .0)) $
           assigns ! (bin ! (load ! (from ! (stop !)) (look ! 21 refl)) (lit ! tt) (record { fits = wide less })) (from ! (stop !)) (init ! 11 refl (tt, record { fits = wide less })) $
@@ -309,7 +310,8 @@ module _ {M : Type 1} (𝓤 : URA M) (H : Heap 𝓤) (A : Atoms 𝓤) (W : Given
       qed W ((‵ (flft κ₀ q₀) ⊛ ‵ (flft κ₁ q₁) ⊛ ‵ (flft κ₂ q₂) ⊛ ‵ ftrue) ∷ ‵ (owns (ShrSlice (named 0) κ₀ u64 ∷ ShrSlice (named 1) κ₁ u64 ∷ MutSlice (named 2) κ₂ T.the-row ∷ []) a vals) ∷ []) ∵ enter ! (𝓣 .C) (𝓣 .Λ) code.function (v₀ ∷ v₁ ∷ s ∷ []) _ $
       alloc1 ! (λ l₀. alloc1 ! (λ l₁. alloc1 ! (λ l₂. alloc1 ! (λ l₃. alloc1 ! (λ l₄. alloc1 ! (λ l₅. alloc1 ! (λ l₆. alloc1 ! (λ l₇. alloc1 ! (λ l₈. alloc1 ! (λ l₉. alloc1 ! (λ l₁₀. alloc1 ! (λ l₁₁. alloc0 ! $ params1 ! $
       pass1 ! (init ! 20 refl (tt, (tt, (record { fits = room₀ .0 }, tt)))) $ pass1 ! (init ! 18 refl (tt, (tt, (record { fits = room₁ .0 }, tt)))) $ pass1 ! (init ! 16 refl (tt, (tt, (record { fits = room₂ .0 }, tt)))) $ pass0 ! $
-      -- [_11; …; _10; …; _9; …; _8; …; _7; …; _6; …; _5; …; _4; …; _3; …; _2; …; _1; …; room for _0; …; the tokens; what the parameters own]
+      -- [_11; …; _10; …; _9; …; _8; …; _7; …; _6; …; _5; …; _4; …; _3; …; _2; …; _1; …; room for _0; …; the tokens;
+      -- what the parameters own]
       assigns ! (of-opd ! (load ! (from ! (fld ! refl (stop !))) (look-in ! 18 (sub ! 1 refl (whole !))))) (from ! (stop !)) (init ! 10 refl (tt, record { fits = room₁ .0 })) $
       assigns ! (of-opd ! (load ! (from ! (fld ! refl (stop !))) (look-in ! 16 (sub ! 1 refl (whole !))))) (from ! (stop !)) (init ! 8 refl (tt, record { fits = room₂ .0 })) $
       use0 W (raw (Count 𝓤 H A mem run .pre to-count)) goes-count $

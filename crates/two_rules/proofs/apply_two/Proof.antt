@@ -1,15 +1,16 @@
--- `two_rules::apply_two`: the two texts of the rule are narrowed, and what comes of them is laid over their places. Assumes nothing.
+-- `two_rules::apply_two`: the two texts of the rule are narrowed, and what comes of them is laid over their places.
+-- Assumes nothing.
 use mathlib.Core.Path.{_∙_}
 use mathlib.Core.Bool.{true}
 use mathlib.Core.List.{List, [], _∷_}
-use Prim.Native.Nat.{ℕ}
+use Prim.Native.Nat.{ℕ, _*_}
 use native.Mathlib.Omega.{arith}
 use lib.Dec.{lit≤}
 use lib.ListN.{replicate}
 use borrow.Author.Tests.{not-true, not-false}
 use Rattle.rules.specs.declared.Rule.{Rule}
 use Rattle.shapes.specs.Lent.{Numbers}
-use Rattle.shapes.proofs.All.{all-of}
+use Rattle.plain.proofs.All.{all-of}
 use Rattle.texts.specs.Kind.{relationOf}
 use Rattle.pairs.specs.Narrow.{Narrows}
 use Rattle.books.specs.Code.{numbersIn}
@@ -18,6 +19,7 @@ use Rattle.book_steps.proofs.Laid.{Lays}
 use Rattle.book_steps.proofs.Once.{says-same, says-changed}
 use Rattle.book_steps.proofs.Narrowed.{two-none, newTwo, two-sized, two-hull, two-lays}
 use borrow.Author.Needs.{needs}
+use Rattle.shapes.specs.Shape.{mostBlocks, blockSize}
 use Rattle.two_rules.proofs.apply_two.Statement.{statement}
 use Rattle.two_rules.proofs.apply_two.Tie as tie
 
@@ -71,7 +73,7 @@ module _ (c : tie.After-slice-known3) where
   abbrev xs : List ℕ
   xs = start .args .numbers .now
 
-  both : Narrows (relationOf (rule .kind)) (numbersIn counts xs (rule .a)) (numbersIn counts xs (rule .b)) (replicate 128 0) (replicate 128 0)
+  both : Narrows (relationOf (rule .kind)) (numbersIn counts xs (rule .a)) (numbersIn counts xs (rule .b)) (replicate (mostBlocks * blockSize) 0) (replicate (mostBlocks * blockSize) 0)
       (c .before .before .before .before .before .before .before .before .before .before .before .before .before .narrow-two .last .1 .1 .1 .0) (c .before .before .before .before .before .before .before .before .before .before .before .before .before .narrow-two .last .1 .1 .1 .1 .0)
   both = c .before .before .before .before .before .before .before .before .before .before .before .before .before .narrow-two .ensures .both (not-false _ (c .before .before .before .before .before .before .before .before .before .before .if1 .left))
 

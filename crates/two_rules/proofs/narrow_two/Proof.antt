@@ -4,8 +4,9 @@ use native.Mathlib.Omega.{arith}
 use Rattle.shapes.specs.Lent.{Accepted}
 use Rattle.pairs.specs.Pair.{PairAccepted}
 use Rattle.book_steps.proofs.Standing.{text-accepted}
-use Rattle.book_steps.proofs.Texts.{at, at-is, few-numbers, answer-is}
+use Rattle.book_steps.proofs.Texts.{at, at-is, answer-is}
 use borrow.Author.Needs.{needs}
+use Rattle.shapes.proofs.Lent.{accepted-few}
 use Rattle.two_rules.proofs.narrow_two.Statement.{statement}
 use Rattle.two_rules.proofs.narrow_two.Tie as tie
 
@@ -54,8 +55,8 @@ narrow-accepted-requires : tie.Need-narrow-accepted-requires
 narrow-accepted-requires c κs =
     let s = c .before .before .before .before .before .before .before .before .before .before in
     let ok = accepted (c .before .before .before .before) in
-    let few-a = few-numbers (ok .first) in
-    let few-b = few-numbers (ok .second) in
+    let few-a = accepted-few (ok .first) in
+    let few-b = accepted-few (ok .second) in
     let room-x = s .pre .1 .1 .1 .0 in
     let room-y = s .pre .1 .1 .1 .1 in
     (record { known = s .pre .1 .0 .known; no-join = s .pre .1 .1 .0 }, (ok, (omega arith, omega arith)))

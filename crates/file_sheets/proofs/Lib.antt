@@ -1,0 +1,2 @@
+-- A sheet from its sections.
+pub mod Whole

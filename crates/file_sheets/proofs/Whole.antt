@@ -1,0 +1,61 @@
+-- A sheet from its two sections. Assumes nothing.
+use mathlib.Core.Path.{_≡_, refl, sym, ap, _∙_, subst}
+use mathlib.Core.List.{List, [], _∷_, _++_, append-assoc, append-nil}
+use Prim.Native.Nat.{ℕ, _+_, _≤_}
+use native.Mathlib.Omega.{arith}
+use lib.ListN.{length, drop, length-drop}
+use lib.Seq.{drop-drop}
+use Rattle.plain.specs.Items.{joinItems}
+use Rattle.shapes.specs.Lent.{wordsOf}
+use Rattle.file_lines.specs.declared.Heading.the-variants.{Texts, Blocks}
+use Rattle.file_lines.specs.declared.Section.{Section}
+use Rattle.file_lines.specs.Grammar.{joined, partLines, linesOf, writing, InGrammar}
+use Rattle.file_lines.specs.Grammar.InGrammar.{none as no-part, more as one-part}
+use Rattle.file_lines.specs.Book.{Sheet, part, section, sheetParts, sheetGrammar}
+use Rattle.file_lines.proofs.Joined.{joined-append}
+use Rattle.files.specs.Departs.{Departs}
+use Rattle.files.proofs.Departs.{part-length, after-part}
+use Rattle.file_sections.specs.Parts.{Front, numbersIn, SectionIs}
+use Rattle.rules.specs.Limits.{bookBlocks}
+use Rattle.file_sheets.specs.Sheet.{SheetIs}
+
+-- the numbers of counts are the counts
+counts-are : (xs : List ℕ) → numbersIn Texts xs ≡ xs
+unfolding joinItems
+counts-are [] = refl
+counts-are (x ∷ xs) = ap (λ (l : List ℕ). x ∷ l) (counts-are xs)
+
+module _ (texts : ℕ) (bytes cs cs′ : List ℕ) (n m : ℕ) (t : SectionIs (section Texts texts) bytes cs cs′ n m) where
+  pub sheet-of : (bs bs′ : List ℕ) (b k : ℕ) → SectionIs (section Blocks bookBlocks) (drop m bytes) bs bs′ b k → SheetIs texts bytes cs bs cs′ bs′ n b (m + k)
+  unfolding writing linesOf sheetParts wordsOf
+  sheet-of bs bs′ b k s = record {
+    sheet = record { counts = t .items; blocks = s .items };
+    fits = one-part (t .fits) (one-part (s .fits) no-part);
+    within = let x = t .within in let y = s .within in let e = length-drop m bytes in omega arith;
+    split = t .split ∙ ap (λ (r : List ℕ). joined first ++ r) (s .split ∙ ap (λ (r : List ℕ). joined second ++ r) (drop-drop k m bytes))
+        ∙ sym (append-assoc (joined first) (joined second) (drop (m + k) bytes))
+        ∙ ap (λ (r : List ℕ). r ++ drop (m + k) bytes) (sym (joined-append first second) ∙ ap (λ (l : List (List ℕ)). joined (first ++ l)) (sym (append-nil second)));
+    counts = subst (λ (l : List ℕ). Front l cs cs′) (counts-are (t .items)) (t .stored);
+    blocks = s .stored;
+    texts-many = t .count;
+    blocks-many = s .count;
+  }
+    where
+      first : List (List ℕ)
+      first = partLines Texts (t .items)
+
+      second : List (List ℕ)
+      second = partLines Blocks (s .items)
+
+  pub sheet-stops : (i : ℕ) → ((G : List Section) → Departs (section Blocks bookBlocks ∷ G) (drop m bytes) (i + 1)) → (G : List Section) → Departs (sheetGrammar texts ++ G) bytes (n + i + 1 + 1)
+  sheet-stops i d G =
+      let l = part-length Texts (t .items) in
+      let c = t .count in
+      let line : length (partLines Texts (t .items)) + (i + 1) ≡ n + i + 1 + 1 = omega arith in
+      subst (Departs (sheetGrammar texts ++ G) bytes) line
+      (after-part (section Texts texts) (section Blocks bookBlocks ∷ G) (part Texts (t .items)) bytes (drop m bytes) (i + 1) (t .fits) (t .split) (d G))
+
+-- how many texts and blocks it has
+pub sheet-few : {texts : ℕ} (s : Sheet) → InGrammar (sheetGrammar texts) (sheetParts s) → (length (s .counts) ≤ texts) × (length (s .blocks) ≤ bookBlocks)
+unfolding sheetParts
+sheet-few s (one-part t (one-part b no-part)) = (t .few, b .few)

@@ -1,0 +1,2 @@
+-- What reading a sheet answers.
+pub mod Sheet

@@ -1,0 +1,1 @@
+// No code: what is said of plain numbers, lists and answers, whatever they stand for.

@@ -1,0 +1,2 @@
+-- The laws of rules as numbers.
+pub mod Rules
