@@ -2,6 +2,8 @@
 pub mod Sums
 pub mod Part
 pub mod Fourth
+pub mod Asks
+pub mod Fillings
 pub mod Refused
 pub mod Tell
 pub mod Joinable

@@ -22,7 +22,7 @@ use Rattle.row_paths.proofs.Left.{left-row}
 use Rattle.row_paths.proofs.Lent.{block-at}
 use Rattle.row_paths.proofs.Shapes.{free-within, held-within}
 use Rattle.common_back.specs.Back.{EndRows}
-use Rattle.common_blocks.specs.Rows.{Whenever, BlockKept, RowsAfter}
+use Rattle.common_blocks.specs.Rows.{WheneverRoomy, BlockKept, RowsAfter}
 
 -- The row has the positions of y whose base meets that of block h of x.
 abbrev MineIs : List ℕ → List ℕ → ℕ → ℕ → Type 0
@@ -71,7 +71,7 @@ module _ {x y : List ℕ} {Z E : ℕ → ℕ} {k : ℕ} (z : Zones (slotAt (shap
   -- one more block, from p to q
   pub pass-more : {i n p q mine s r : ℕ} {b : Block} {mines mines′ rows rows′ : List ℕ} → n ≡ i + 1 → i < blockCount x → b ≡ blockAt x i → q ≡ p + b .upper
       → Exactly mine (λ j. Meets (b .base) (slotAt (shapeOf y) j .base)) → PassFrom x y n q mines rows s → PutRow mines i mine mines′
-      → Whenever Z E k mine p b (BlockKept s rows′ p b r) → RowsAfter (p + b .upper) rows rows′ → PassFrom x y i p mines′ rows′ r
+      → WheneverRoomy Z E k mine p b (BlockKept s rows′ p b r) → RowsAfter (p + b .upper) rows rows′ → PassFrom x y i p mines′ rows′ r
   pass-more {i} {n} {p} {q} {mine} {s} {r} {b} {mines} {mines′} {rows} {rows′} d l be qe m t u f w = record {
     place = place;
     mine = λ h a g. ⊎-elim

@@ -15,7 +15,7 @@ use Rattle.pads.specs.Pad.{PadPath}
 use Rattle.rows.specs.Row.{rowIn, PutRow}
 use Rattle.rows.specs.Steps.{Leads}
 use Rattle.row_paths.proofs.Back.{row-before, inwards-plain}
-use Rattle.common_blocks.specs.Rows.{Whenever, BlockKept, RowsAfter}
+use Rattle.common_blocks.specs.Rows.{WheneverRoomy, BlockKept, RowsAfter}
 
 -- The rows of the block b from its o-th character on, where s is the row at its end and r that at o.
 abbrev pub KeptFrom : ℕ → List ℕ → ℕ → ℕ → Block → ℕ → (ℕ → Block) → (ℕ → Block) → ℕ → ℕ → Type 0
@@ -24,15 +24,15 @@ KeptFrom s rows o p b r X Y U W = Exactly s (λ j. PadPath X Y U W (p + b .upper
 
 module _ {Z E : ℕ → ℕ} {k mine p : ℕ} {b : Block} where
   -- at the block's end, no row of it is asked for
-  pub rows-start : (rows : List ℕ) (s : ℕ) {o : ℕ} → o ≡ b .upper → Whenever Z E k mine p b (KeptFrom s rows o p b s)
+  pub rows-start : (rows : List ℕ) (s : ℕ) {o : ℕ} → o ≡ b .upper → WheneverRoomy Z E k mine p b (KeptFrom s rows o p b s)
   rows-start rows s e = record {
     holds = λ X Y U W z i fits y m x. (λ h l g. absurd (omega arith), subst (λ (q : ℕ). Exactly s (λ j. PadPath X Y U W (p + q) j)) (sym e) x);
   }
 
   -- the row one character earlier, put where it belongs
-  pub rows-more : (s n row d step seeds r : ℕ) {o : ℕ} {w w′ : List ℕ} → n ≡ o + 1 → o < b .upper → Whenever Z E k mine p b (KeptFrom s w n p b row)
+  pub rows-more : (s n row d step seeds r : ℕ) {o : ℕ} {w w′ : List ℕ} → n ≡ o + 1 → o < b .upper → WheneverRoomy Z E k mine p b (KeptFrom s w n p b row)
       → d ≡ row / 2 → step ≡ bitAnd d mine → (leb (b .lower) o ≡ true → seeds ≡ bitOr step s) → (leb (b .lower) o ≡ false → seeds ≡ step)
-      → Exactly r (Leads Z E k seeds) → PutRow w (p + o) r w′ → Whenever Z E k mine p b (KeptFrom s w′ o p b r)
+      → Exactly r (Leads Z E k seeds) → PutRow w (p + o) r w′ → WheneverRoomy Z E k mine p b (KeptFrom s w′ o p b r)
   rows-more s n row d step seeds r {o} {w} {w′} e small f de se on off ro u = record {
     holds = λ X Y U W z i fits y m x.
         let t = f .holds X Y U W z i fits y m x in
@@ -47,7 +47,7 @@ module _ {Z E : ℕ → ℕ} {k mine p : ℕ} {b : Block} where
   }
 
   -- at its start, all are there
-  pub rows-end : (s : ℕ) (rows : List ℕ) (r : ℕ) {o : ℕ} → o ≡ 0 → Whenever Z E k mine p b (KeptFrom s rows o p b r) → Whenever Z E k mine p b (BlockKept s rows p b r)
+  pub rows-end : (s : ℕ) (rows : List ℕ) (r : ℕ) {o : ℕ} → o ≡ 0 → WheneverRoomy Z E k mine p b (KeptFrom s rows o p b r) → WheneverRoomy Z E k mine p b (BlockKept s rows p b r)
   rows-end s rows r {o} e f = record {
     holds = λ X Y U W z i fits y m x.
         let t = f .holds X Y U W z i fits y m x in

@@ -12,7 +12,7 @@ use Rattle.row_paths.specs.Rows.{Zones, BlockIn}
 
 -- For each X that has the block b at p, each Y without padding whose ends of runs are the steps from Z to E, and ends U
 -- and W.
-pub record Whenever (Z E : ℕ → ℕ) (k mine p : ℕ) (b : Block) (P : (ℕ → Block) → (ℕ → Block) → ℕ → ℕ → Type 0) : Type 0 where
+pub record WheneverRoomy (Z E : ℕ → ℕ) (k mine p : ℕ) (b : Block) (P : (ℕ → Block) → (ℕ → Block) → ℕ → ℕ → Type 0) : Type 0 where
   pub holds : (X Y : ℕ → Block) (U W : ℕ) → Zones Y Z E k → BlockIn X p b → p + b .upper ≤ U → Roomy Y → Exactly mine (λ q. Meets (b .base) (Y q .base)) → P X Y U W
 
 -- The rows of the block b from p on, where s is the row at its end and r that at its start.

@@ -10,7 +10,7 @@ ghost use Rattle.shapes.specs.Lent.{meant};
 ghost use Rattle.rows.specs.Row.{rowIn, rowCount, tableSize};
 ghost use Rattle.rows.specs.Steps.{InTurn, Together};
 ghost use Rattle.carries.specs.Climb.{Spans};
-ghost use Rattle.common_blocks.specs.Rows.{Whenever, BlockKept, RowsAfter};
+ghost use Rattle.common_blocks.specs.Rows.{WheneverRoomy, BlockKept, RowsAfter};
 
 // The rows of the block b from position p on, where s is the row at its end; gives that at p.
 pub fn back_block(
@@ -29,7 +29,7 @@ pub fn back_block(
     requires { ⌜ InTurn (rowIn (now zones)) (rowIn (now ends)) k ⌝ }
     requires { ⌜ Together (rowIn (now zones)) (rowIn (now ends)) k (setOf (runs .free)) (setOf (runs .stops)) × Spans (setOf (runs .free)) (now spans) ⌝ }
     requires { ⌜ (p + b .upper ≤ 250) × (length (now rows) ≡ tableSize) ⌝ }
-    ensures { λ r. ⌜ Whenever (rowIn (now (zones .entry))) (rowIn (now (ends .entry))) k (setOf mine) p (meant b) (BlockKept (setOf s) (now (rows .exit)) p (meant b) (setOf r)) ⌝ }
+    ensures { λ r. ⌜ WheneverRoomy (rowIn (now (zones .entry))) (rowIn (now (ends .entry))) k (setOf mine) p (meant b) (BlockKept (setOf s) (now (rows .exit)) p (meant b) (setOf r)) ⌝ }
     ensures { λ _. ⌜ RowsAfter (p + b .upper) (now (rows .entry)) (now (rows .exit)) ⌝ }
 {
     let mut row = s;

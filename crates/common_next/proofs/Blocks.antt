@@ -17,15 +17,15 @@ use Rattle.shapes.specs.Lent.{shapeOf, blockAt}
 use Rattle.shapes.proofs.Lent.{shape-length, shape-at}
 use Rattle.walks.specs.Walk.{slotAt}
 use Rattle.rows.specs.Row.{rowIn}
-use Rattle.rows.specs.Steps.{Matched}
+use Rattle.rows.specs.Steps.{MeetsOne}
 use Rattle.row_lay.proofs.Laid.{total-zero, total-more, total-all, upper-within}
 use Rattle.row_paths.specs.Laid.{Laid}
 use Rattle.row_paths.proofs.Lent.{slot-rows-at}
 use Rattle.row_paths.proofs.Shapes.{held-within}
 use Rattle.common_back.specs.Back.{EndRows}
 use Rattle.common_weighs.specs.declared.Weighed.{Weighed}
-use Rattle.common_weighs.specs.Next.{Goes, none, Slotted}
-use Rattle.common_weighs.specs.Code.{Near, ChosenBy, Weighing, WeighedAll, Enough}
+use Rattle.common_weighs.specs.Next.{BothTake, none, Slotted}
+use Rattle.common_weighs.specs.Code.{NearHas, ChosenBy, Weighing, WeighedAll, Enough}
 use Rattle.common_weighs.proofs.Weighing.{least-more, may-as, settle}
 
 -- those of P in a row
@@ -33,11 +33,11 @@ pub members-of : (P : ℕ) {left row r : ℕ} → row ≡ r → left ≡ bitAnd 
 members-of P {left} e d = subst (λ (q : ℕ). Exactly left (λ i. Holds P i × Holds q i)) e (both-exactly P _ d)
 
 -- all characters there are
-pub near-all : {y : List ℕ} {Q near : ℕ} → Exactly near (λ c. c < 256) → Near y Q near
+pub near-all : {y : List ℕ} {Q near : ℕ} → Exactly near (λ c. c < 256) → NearHas y Q near
 near-all x = record { all = λ j c b q h. x .has c b }
 
 -- every character at the positions Q
-pub near-of : {y z e s : List ℕ} → Laid y z e s → {k : ℕ} → k ≡ blockCount y → (Q : ℕ) {near : ℕ} → Exactly near (Matched (rowIn s) (λ i. blockAt y i .base) k Q) → Near y Q near
+pub near-of : {y z e s : List ℕ} → Laid y z e s → {k : ℕ} → k ≡ blockCount y → (Q : ℕ) {near : ℕ} → Exactly near (MeetsOne (rowIn s) (λ i. blockAt y i .base) k Q) → NearHas y Q near
 near-of {y} l d Q x = record {
   all = λ j c b q h.
       let r = slot-rows-at y d (l .lay) in
@@ -109,7 +109,7 @@ module _ (x y : List ℕ) (P Q : ℕ) where
   -- ---- when its positions are weighed as far as need be
 
   module _ {base E left code kept seen : ℕ} (w : Weigh base E left code kept seen) where
-    settled : ((i j c : ℕ) → Holds left i → Holds Q j → Goes (slotAt (shapeOf x)) (slotAt (shapeOf y)) (total (shapeOf x)) (total (shapeOf y)) i j c → (code ≤ c) × (code < 256))
+    settled : ((i j c : ℕ) → Holds left i → Holds Q j → BothTake (slotAt (shapeOf x)) (slotAt (shapeOf y)) (total (shapeOf x)) (total (shapeOf y)) i j c → (code ≤ c) × (code < 256))
         → Chosen (λ i. Holds P i × (i < E)) code kept
     settled f = record { least = settle w f; kept-all = w .kept-all }
 
@@ -117,8 +117,8 @@ module _ (x y : List ℕ) (P Q : ℕ) where
     unfolding Empty
     all-settled n = settled (λ i j c g q t. absurd (n i g))
 
-    module _ {near usable : ℕ} (small : base < 2 ^ codes) (n : Near y Q near) (e : usable ≡ bitAnd base near) where
-      brings : (i j c : ℕ) → Holds left i → Holds Q j → Goes (slotAt (shapeOf x)) (slotAt (shapeOf y)) (total (shapeOf x)) (total (shapeOf y)) i j c → Holds usable c
+    module _ {near usable : ℕ} (small : base < 2 ^ codes) (n : NearHas y Q near) (e : usable ≡ bitAnd base near) where
+      brings : (i j c : ℕ) → Holds left i → Holds Q j → BothTake (slotAt (shapeOf x)) (slotAt (shapeOf y)) (total (shapeOf x)) (total (shapeOf y)) i j c → Holds usable c
       brings i j c g q t =
           let h = subst (λ (v : ℕ). Holds v c) (w .inside i g .2) (t .first) in
           let b = held-under codes small c h in
@@ -144,7 +144,7 @@ module _ (x y : List ℕ) (P Q : ℕ) where
     pub members-small : (i : ℕ) → Holds left i → i < 250
     members-small i g = let w = members-within i g in let b = l .laid .whole .short in omega arith
 
-    pub block-found : {near usable least mine beside base : ℕ} (g r : Weighed) {code kept code′ kept′ : ℕ} → base < 2 ^ codes → Near y Q near → base ≡ blockAt x a .base → usable ≡ bitAnd base near → Least usable least → least < 256
+    pub block-found : {near usable least mine beside base : ℕ} (g r : Weighed) {code kept code′ kept′ : ℕ} → base < 2 ^ codes → NearHas y Q near → base ≡ blockAt x a .base → usable ≡ bitAnd base near → Least usable least → least < 256
         → mine ≡ rowIn mines a → beside ≡ bitAnd Q mine → g .code ≡ code → setOf (g .kept) ≡ kept → setOf (g .seen) ≡ 0 → WeighedAll y rows base least beside left g r → code′ ≡ r .code → kept′ ≡ setOf (r .kept)
         → Chosen (λ i. Holds P i × (i < total (take a (shapeOf x)))) code kept → Chosen (λ i. Holds P i × (i < total (take (a + 1) (shapeOf x)))) code′ kept′
     block-found {near} {usable} {least} {mine} {beside} {base} g r small n e u f b me be ce ke se w ce′ ke′ v = found-as ce′ ke′

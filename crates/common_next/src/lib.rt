@@ -13,7 +13,7 @@ ghost use Rattle.shapes.specs.Lent.{shapeOf};
 ghost use Rattle.walks.specs.Walk.{slotAt};
 ghost use Rattle.common_back.specs.Back.{EndRows};
 ghost use Rattle.common_weighs.specs.Next.{RunsEnded, After, RunEnds, Slotted};
-ghost use Rattle.common_weighs.specs.Code.{Near, ChosenBy, ChosenTo};
+ghost use Rattle.common_weighs.specs.Code.{NearHas, ChosenBy, ChosenTo};
 
 // Where the text so far leads in one shape, where its last character may stand in it, where its runs may end, and where
 // they then are.
@@ -86,7 +86,7 @@ fn weigh_block(
     requires { ⌜ Slotted (now x) (now «slots_x») × Slotted (now y) (now «slots_y») ⌝ }
     requires { ⌜ EndRows (now x) (now y) (now mines) (now rows) ⌝ }
     requires { ⌜ a < blockCount (now x) ⌝ }
-    requires { ⌜ Near (now y) (setOf other) (setOf near) ⌝ }
+    requires { ⌜ NearHas (now y) (setOf other) (setOf near) ⌝ }
     requires { ⌜ ChosenTo (now x) (now y) a (setOf own) (setOf other) found ⌝ }
     ensures { λ r. ⌜ ChosenTo (now (x .entry)) (now (y .entry)) (a + 1) (setOf own) (setOf other) r ⌝ }
 {
@@ -115,7 +115,7 @@ fn weigh_block(
 // and all will do.
 fn nearby(own: Set, other: Set, y: &[u64], slots: &[u64]) -> Set
     requires { ⌜ Slotted (now y) (now slots) ⌝ }
-    ensures { λ r. ⌜ Near (now (y .entry)) (setOf other) (setOf r) ⌝ }
+    ensures { λ r. ⌜ NearHas (now (y .entry)) (setOf other) (setOf r) ⌝ }
 {
     if sets::is_empty(own) {
         return sets::below(256);

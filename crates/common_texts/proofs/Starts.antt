@@ -14,7 +14,7 @@ use Rattle.walks.proofs.Walks.{walk-append, walk-to, walk-text, path-of}
 use Rattle.walks.proofs.Laid.{slots, bounded}
 use Rattle.walks.proofs.Fillings.{filling-walk, walk-fits}
 use Rattle.rows.specs.Row.{rowIn}
-use Rattle.rows.specs.Steps.{Leads, Matched, Together}
+use Rattle.rows.specs.Steps.{Leads, MeetsOne, Together}
 use Rattle.row_paths.specs.Laid.{Laid}
 use Rattle.row_paths.proofs.Laid.{laid-zones}
 use Rattle.common_back.specs.Back.{EndRows}
@@ -26,7 +26,7 @@ use Rattle.common_writes.specs.Code.{Finishes, Meeting, Stands, Started, AtMost
 -- ---- the start
 
 pub started : {x z e′ l : List ℕ} → Laid x z e′ l → {s : Front} {k one two : ℕ} → k ≡ blockCount x → Exactly one (λ c. c ≡ 0) → Exactly (setOf (s .row)) (Leads (rowIn e′) (rowIn z) k one)
-    → Exactly two (λ c. c ≡ 0) → Exactly (setOf (s .takes)) (Matched (λ j. blockAt x j .base) (rowIn l) k two) → Together (rowIn z) (rowIn e′) k (setOf (s .free)) (setOf (s .stops)) → Started x s
+    → Exactly two (λ c. c ≡ 0) → Exactly (setOf (s .takes)) (MeetsOne (λ j. blockAt x j .base) (rowIn l) k two) → Together (rowIn z) (rowIn e′) k (setOf (s .free)) (setOf (s .stops)) → Started x s
 started {x} {z} {e′} d {s = s} e o r o′ t f = record {
   row = exactly-as
       (λ q w. subst (λ (p : ℕ). Walk (slotAt (shapeOf x)) q p []) (o .so (w .from) (w .held)) (w .walk))

@@ -14,7 +14,7 @@ use Rattle.shapes.specs.Lent.{shapeOf, blockAt}
 use Rattle.walks.specs.Walk.{Walk, here, skip, slotAt}
 use Rattle.walks.proofs.Walks.{walk-append}
 use Rattle.rows.specs.Row.{rowIn}
-use Rattle.rows.specs.Steps.{Leads, there, step, Matched}
+use Rattle.rows.specs.Steps.{Leads, there, step, MeetsOne}
 use Rattle.row_paths.specs.Laid.{Laid}
 use Rattle.row_paths.specs.Rows.{Zones}
 use Rattle.row_paths.proofs.Chars.{SlotRows}
@@ -75,7 +75,7 @@ row-after x row takes c {a} {u} short t d e y = exactly-as to from y
 -- ---- the positions that take a character
 
 pub takes-char : {x z e s : List ℕ} → Laid x z e s → {k one m code : ℕ} → k ≡ blockCount x → Exactly one (λ c. c ≡ code)
-    → Exactly m (Matched (λ j. blockAt x j .base) (rowIn s) k one) → Exactly m (λ q. Holds (slotAt (shapeOf x) q .base) code)
+    → Exactly m (MeetsOne (λ j. blockAt x j .base) (rowIn s) k one) → Exactly m (λ q. Holds (slotAt (shapeOf x) q .base) code)
 takes-char {x} l {code = code} d o y = exactly-as
     (λ q m. subst (Holds (slotAt (shapeOf x) q .base)) (o .so (m .shared) (m .second)) (m .first))
     (λ q h. record { shared = code; first = h; second = o .has code refl })
@@ -84,7 +84,7 @@ takes-char {x} l {code = code} d o y = exactly-as
 -- ---- the characters that a base shares with those at some positions
 
 module _ {Y : ℕ → Block} {B S : ℕ → ℕ} {k : ℕ} (s : SlotRows Y B S k) where
-  shared-in : (base row : ℕ) {j n : ℕ} → Exactly j (Matched S B k row) → n ≡ bitAnd base j → Exactly n (SharedAt Y base row)
+  shared-in : (base row : ℕ) {j n : ℕ} → Exactly j (MeetsOne S B k row) → n ≡ bitAnd base j → Exactly n (SharedAt Y base row)
   shared-in base row {j} x e = exactly-as to from (both-exactly base j e)
     where
       to : (c : ℕ) → Holds base c × Holds j c → SharedAt Y base row c
@@ -105,7 +105,7 @@ module _ {Y : ℕ → Block} {B S : ℕ → ℕ} {k : ℕ} (s : SlotRows Y B S k
             }),
           )
 
-pub shared-row : {y z e s : List ℕ} → Laid y z e s → {k : ℕ} → k ≡ blockCount y → (base row : ℕ) {j n : ℕ} → Exactly j (Matched (rowIn s) (λ i. blockAt y i .base) k row) → n ≡ bitAnd base j
+pub shared-row : {y z e s : List ℕ} → Laid y z e s → {k : ℕ} → k ≡ blockCount y → (base row : ℕ) {j n : ℕ} → Exactly j (MeetsOne (rowIn s) (λ i. blockAt y i .base) k row) → n ≡ bitAnd base j
     → Exactly n (SharedAt (slotAt (shapeOf y)) base row)
 shared-row {y} l d base row x e = shared-in (slot-rows-at y d (l .lay)) base row x e
 

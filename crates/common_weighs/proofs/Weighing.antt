@@ -14,7 +14,7 @@ use Rattle.shapes.specs.Lent.{shapeOf}
 use Rattle.walks.specs.Walk.{Path, slotAt}
 use Rattle.rows.specs.Row.{rowIn}
 use Rattle.common_weighs.specs.declared.Weighed.{Weighed}
-use Rattle.common_weighs.specs.Next.{Goes, MayCome, LeastOf, some, none}
+use Rattle.common_weighs.specs.Next.{BothTake, MayCome, LeastOf, some, none}
 use Rattle.common_weighs.specs.Code.{SharedAt, Sooner, Weighing, WeighingAt, WeighedBy, bare, WeighedAll}
 
 module _ {X Y : ℕ → Block} {U W Q : ℕ} where
@@ -57,7 +57,7 @@ live-beside i row beside base Q {d} x y e g = exactly-as
 
 module _ {X Y : ℕ → Block} {U W P Q base E left code kept seen : ℕ} (w : Weighing X Y U W P Q base E left code kept seen) where
   -- none is left that can bring one that comes sooner
-  pub settle : ((i j c : ℕ) → Holds left i → Holds Q j → Goes X Y U W i j c → (code ≤ c) × (code < 256)) → LeastOf (MayCome X Y U W (λ i. Holds P i × (i < E)) Q) code
+  pub settle : ((i j c : ℕ) → Holds left i → Holds Q j → BothTake X Y U W i j c → (code ≤ c) × (code < 256)) → LeastOf (MayCome X Y U W (λ i. Holds P i × (i < E)) Q) code
   settle f = least-more (λ i d. (d .0, d .1)) more (w .least)
     where
       more : (c : ℕ) → MayCome X Y U W (λ i. Holds P i × (i < E)) Q c → MayCome X Y U W (λ i. Holds P i × (i < E) × (Holds left i → ⊥)) Q c ⊎ ((code ≤ c) × (code < 256))
@@ -81,9 +81,9 @@ module _ {X Y : ℕ → Block} {U W P Q base E left code kept seen : ℕ} (w : W
     this = (w .inside i at .0, w .inside i at .1, λ h. less .so i h .1 refl)
 
     -- a character that may come now could before, or it comes at i
-    split : {c : ℕ} → MayCome X Y U W D′ Q c → MayCome X Y U W D Q c ⊎ ((j : ℕ) × Holds Q j × Goes X Y U W i j c)
+    split : {c : ℕ} → MayCome X Y U W D′ Q c → MayCome X Y U W D Q c ⊎ ((j : ℕ) × Holds Q j × BothTake X Y U W i j c)
     split {c} m = ⊎-elim
-        (λ e. inr (m .other, m .held, subst (λ (h : ℕ). Goes X Y U W h (m .other) c) e (m .goes)))
+        (λ e. inr (m .other, m .held, subst (λ (h : ℕ). BothTake X Y U W h (m .other) c) e (m .goes)))
         (λ n. inl (record { own = m .own; other = m .other; has = (m .has .0, m .has .1, λ h. m .has .2 (less .has (m .own) (h, n))); held = m .held; goes = m .goes }))
         (eq-or-ne (m .own) i)
 
@@ -94,7 +94,7 @@ module _ {X Y : ℕ → Block} {U W P Q base E left code kept seen : ℕ} (w : W
     own-base c h = subst (λ (b : ℕ). Holds b c) (w .inside i at .2) h
 
     module _ {here : ℕ} (beside : Exactly here (λ j. Holds Q j × Meets base (Y j .base) × Path X Y U W (i + 1) (j + 1))) where
-      is-beside : {j c : ℕ} → Holds Q j → Goes X Y U W i j c → Holds here j
+      is-beside : {j c : ℕ} → Holds Q j → BothTake X Y U W i j c → Holds here j
       is-beside {j} {c} h g = beside .has j (h, record { shared = c; first = own-base c (g .first); second = g .second }, g .on)
 
       -- there both can take none: it is dropped
@@ -104,7 +104,7 @@ module _ {X Y : ℕ → Block} {U W P Q base E left code kept seen : ℕ} (w : W
         least = least-more wider (λ c m. ⊎-elim (λ v. inl v) (λ v. absurd (n (v .0) (is-beside (v .1) (v .2)))) (split m)) (w .least);
         kept-all = record {
           so = λ e h. w .kept-all .so e (x .so e h .0);
-          live = λ e j c p q g. x .has e (w .kept-all .live e j c p q g, λ s. n j (is-beside q (subst (λ (h : ℕ). Goes X Y U W h j c) s g)));
+          live = λ e j c p q g. x .has e (w .kept-all .live e j c p q g, λ s. n j (is-beside q (subst (λ (h : ℕ). BothTake X Y U W h j c) s g)));
         };
         seen-all = w .seen-all;
         inside = rest-inside;

@@ -60,7 +60,7 @@ pub record WeighedAll (y rows : List ℕ) (base least beside members : ℕ) (beg
       → WeighingAt X (slotAt (shapeOf y)) U W P Q base E members begun → Enough X (slotAt (shapeOf y)) U W P Q base E least g
 
 -- Near has every character at the positions Q of the shape y.
-pub record Near (y : List ℕ) (Q near : ℕ) : Type 0 where
+pub record NearHas (y : List ℕ) (Q near : ℕ) : Type 0 where
   pub all : (j c : ℕ) → c < 256 → Holds Q j → Holds (slotAt (shapeOf y) j .base) c → Holds near c
 
 -- What is found once the positions of the shape x that have D are looked at, beside y.

@@ -11,7 +11,7 @@ use Rattle.rows.specs.Steps.{Together}
 use Rattle.row_paths.specs.Laid.{Laid}
 
 -- Both take c, at i and j, and from there one text leads both to their ends.
-pub record Goes (X Y : ℕ → Block) (U W i j c : ℕ) : Type 0 where
+pub record BothTake (X Y : ℕ → Block) (U W i j c : ℕ) : Type 0 where
   pub first : Holds (X i .base) c
   pub second : Holds (Y j .base) c
   pub on : Path X Y U W (i + 1) (j + 1)
@@ -22,7 +22,7 @@ pub record MayCome (X Y : ℕ → Block) (U W : ℕ) (D : ℕ → Type 0) (Q c :
   pub other : ℕ
   pub has : D own
   pub held : Holds Q other
-  pub goes : Goes X Y U W own other c
+  pub goes : BothTake X Y U W own other c
 
 -- The least number that has A; 256 if none has.
 pub data LeastOf (A : ℕ → Type 0) (code : ℕ) : Type 0 where
@@ -32,7 +32,7 @@ pub data LeastOf (A : ℕ → Type 0) (code : ℕ) : Type 0 where
 -- Of P nothing is dropped at which both could take a character.
 pub record NoneDropped (X Y : ℕ → Block) (U W P Q kept : ℕ) : Type 0 where
   pub so : (i : ℕ) → Holds kept i → Holds P i
-  pub live : (i j c : ℕ) → Holds P i → Holds Q j → Goes X Y U W i j c → Holds kept i
+  pub live : (i j c : ℕ) → Holds P i → Holds Q j → BothTake X Y U W i j c → Holds kept i
 
 -- From a position of s the ends of runs lead to q.
 pub record RunsEnded (X : ℕ → Block) (s q : ℕ) : Type 0 where

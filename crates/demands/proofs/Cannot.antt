@@ -16,6 +16,7 @@ use Rattle.texts.specs.Case.{AnyCase}
 use Rattle.texts.proofs.Padding.{padded-blanks}
 use Rattle.texts.proofs.Letters.{capital-counts}
 use Rattle.texts.proofs.Case.{Alike, alike-any}
+use Rattle.walks.specs.Walk.{Same}
 use Rattle.pairs.specs.Pair.{PairAccepted}
 use Rattle.pairs.specs.Narrow.{NarrowPromise}
 use Rattle.pairs.proofs.Pair.{narrow-not}
@@ -28,7 +29,7 @@ use Rattle.plain.specs.Items.{itemsOf}
 use Rattle.demands.specs.Call.{Two, sweep, NarrowMemory, narrowing, HasRoom, narrowPadded, narrowExact, narrowAnyCase}
 use Rattle.demands.specs.Request5.{paddedField, bareField, fields}
 use Rattle.demands.specs.Request9.{capitalUnit, smallUnit, units}
-use Rattle.demands.proofs.Narrowed.{Same, two-texts, of-two, exact-two}
+use Rattle.demands.proofs.Narrowed.{two-texts, of-two, exact-two}
 
 -- ---- whatever the shapes
 

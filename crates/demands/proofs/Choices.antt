@@ -2,15 +2,15 @@
 -- texts that satisfies the whole book is lost. Assumes nothing.
 use mathlib.Core.Path.{_≡_, refl, sym, ap, ap₂, _∙_, subst, subst₂}
 use mathlib.Core.List.{List, [], _∷_, _++_}
-use Prim.Native.Nat.{ℕ, zero, suc, _+_, _-_, _≤_, _<_}
+use Prim.Native.Nat.{ℕ, suc, _-_, _<_}
 use native.Mathlib.Omega.{arith}
-use lib.ListN.{length, getD, take, drop, length-drop, take-append-drop}
-use lib.Seq.{take-at, drop-drop, drop-append-add, length-take-le}
+use lib.ListN.{length, getD, take, drop}
 use Rattle.plain.specs.All.{All}
-use Rattle.shapes.specs.Shape.{Block, Filling, done, textOf, Fits}
+use Rattle.shapes.specs.Shape.{Block, Filling, textOf, Fits}
 use Rattle.shapes.specs.Lent.{Numbers, shapeOf}
 use Rattle.hulls.specs.Hull.{none as in-none, shapes}
-use Rattle.hulls.proofs.Fill.{filling-size, join, split-first, split-second}
+use Rattle.hulls.proofs.Fill.{part-filling}
+use Rattle.books.proofs.Fillings.{assemble}
 use Rattle.hulls.proofs.Runs.{none-lost}
 use Rattle.texts.specs.Kind.{relationOf}
 use Rattle.books.specs.Counts.{sumOf, RightCount, countOf, firstOf}
@@ -24,41 +24,6 @@ use Rattle.book_steps.proofs.Standing.{blocks-size, text-shape}
 use Rattle.demands.specs.Call.{CountsAndRules}
 use Rattle.demands.specs.Calls.{Ending, none, numbers, Calls, Choice}
 use Rattle.demands.proofs.Sequences.{RightRules, outcomeOf, calls-run, calls-end, Ended}
-
--- a part of a filling fills the part
-pub part-filling : (m n : ℕ) {S : List Block} {f : List (List ℕ)} → m + n ≤ length S → Filling S f → Filling (take n (drop m S)) (take n (drop m f))
-part-filling m n {S} {f} h x =
-    let front : length (take m S) ≡ m = length-take-le m S (omega arith) in
-    let rest : Filling (drop m S) (drop m f) =
-    subst (λ (k : ℕ). Filling (drop m S) (drop k f)) front (split-second (take m S) (drop m S) (subst (λ (B : List Block). Filling B f) (sym (take-append-drop m S)) x)) in
-    let size : length (take n (drop m S)) ≡ n = length-take-le n (drop m S) (let e = length-drop m S in omega arith) in
-    subst (λ (k : ℕ). Filling (take n (drop m S)) (take k (drop m f))) size
-    (split-first (take n (drop m S)) (drop n (drop m S)) (subst (λ (B : List Block). Filling B (drop m f)) (sym (take-append-drop n (drop m S))) rest))
-
--- fillings of all texts' shapes, joined
-assemble : (counts : List ℕ) (S : List Block) (text : ℕ → List ℕ) → length S ≡ sumOf counts
-    → ((i : ℕ) → i < length counts → Fits (take (getD counts i 0) (drop (sumOf (take i counts)) S)) (text i))
-    → (f : List (List ℕ)) × Filling S f × ((i : ℕ) → i < length counts → textOf (take (getD counts i 0) (drop (sumOf (take i counts)) f)) ≡ text i)
-unfolding sumOf
-assemble [] [] text e h = ([], done, λ i l. absurd (omega arith))
-assemble [] (b ∷ S) text e h = absurd (omega arith)
-assemble (c ∷ cs) S text e h =
-    let one = h 0 (omega arith) in
-    let others = assemble cs (drop c S) (λ i. text (suc i)) (length-drop c S ∙ omega arith)
-    (λ i l. subst (λ (B : List Block). Fits (take (getD cs i 0) B) (text (suc i))) (sym (drop-drop (sumOf (take i cs)) c S)) (h (suc i) (omega arith))) in
-    let size : length (one .runs) ≡ c = filling-size (one .filling) ∙ length-take-le c S (omega arith) in (
-      one .runs ++ others .0,
-      subst (λ (B : List Block). Filling B (one .runs ++ others .0)) (take-append-drop c S) (join (one .filling) (others .1)),
-      texts (one .runs) (others .0) size (one .joined) (others .2),
-    )
-  where
-    texts : (f g : List (List ℕ)) → length f ≡ c → textOf f ≡ text 0
-        → ((i : ℕ) → i < length cs → textOf (take (getD cs i 0) (drop (sumOf (take i cs)) g)) ≡ text (suc i))
-        → (i : ℕ) → i < suc (length cs) → textOf (take (getD (c ∷ cs) i 0) (drop (sumOf (take i (c ∷ cs))) (f ++ g))) ≡ text i
-    texts f g size p q zero l = ap textOf (take-at f g c size) ∙ p
-    texts f g size p q (suc i) l =
-        ap (λ (r : List (List ℕ)). textOf (take (getD cs i 0) r)) (ap (λ (k : ℕ). drop (k + sumOf (take i cs)) (f ++ g)) (sym size) ∙ drop-append-add f g (sumOf (take i cs)))
-        ∙ q i (omega arith)
 
 module _ {g : CountsAndRules} (right : RightRules g) {xs : List ℕ} (d : Standing (g .counts) xs) {text : ℕ → List ℕ} where
   -- a choice of texts as one of runs

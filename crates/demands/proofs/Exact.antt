@@ -7,14 +7,11 @@ use native.Mathlib.Omega.{arith}
 use lib.ListN.{length, getD, take, drop, length-append, List·getD-append}
 use lib.Seq.{take-at, drop-at, getD-append-add, getD-take, getD-drop}
 use Rattle.shapes.specs.Shape.{Block, Filling, textOf, Fits, noBlock}
-use Rattle.shapes.specs.Lent.{shapeOf, wordsOf, Accepted}
-use Rattle.shapes.proofs.Lent.{shape-length}
-use Rattle.shapes.proofs.Numbers.{shape-words, words-length}
 use Rattle.hulls.specs.Hull.{Satisfies, None, Hull, Tight}
 use Rattle.hulls.proofs.Fill.{filling-size, join, split-first, split-second}
 use Rattle.hulls.proofs.Hull.{keeps}
 use Rattle.hulls.proofs.Tight.{tight-same}
-use Rattle.demands.specs.Demands.{Each, end, next, Texts, Fillings, KeepsExactly}
+use Rattle.demands.specs.Demands.{Each, end, next, TextsFor, Fillings, KeepsExactly}
 
 -- ---- lists laid end to end, the first apart; and cut again, as long as those of S
 
@@ -106,14 +103,14 @@ module _ (P R : List (List ℕ) → Type 0) (X : List Block) (S : List (List Blo
     rule = from _ (subst (λ (g : List (List (List ℕ))). R (map textOf g)) (sym (cut-line X S f l (sizes x))) r);
   }
 
-  pub none-texts : None P (line X S) → Texts R (X ∷ S) → ⊥
+  pub none-texts : None P (line X S) → TextsFor R (X ∷ S) → ⊥
   none-texts n t = let f = runs-of (t .fit) in go (f .1) (subst R (sym (f .2)) (t .satisfy))
     where
       go : {f : List (List (List ℕ))} → Each Filling (X ∷ S) f → R (map textOf f) → ⊥
       go (next x s) r = n .never _ (of-fillings (next x s) r)
 
   module _ (X′ : List Block) (S′ : List (List Block)) (size : Sized (X ∷ S) (X′ ∷ S′)) (h : Hull P (line X S) (line X′ S′)) where
-    pub some-texts : Texts R (X ∷ S)
+    pub some-texts : TextsFor R (X ∷ S)
     some-texts = let f = fillings-of (h .some .satisfies) in record { texts = map textOf (f .fillings); fit = texts-fit (f .fill); satisfy = f .satisfy }
 
     pub keeps-exactly : KeepsExactly R (X ∷ S) (X′ ∷ S′)
@@ -142,14 +139,3 @@ module _ (P R : List (List ℕ) → Type 0) (X : List Block) (S : List (List Blo
         go : {f : List (List (List ℕ))} → Each Filling (X ∷ S) f → R (map textOf f) → Each Filling (X′ ∷ S′) f
         go (next {b = f} {k = k} y s) r =
             subst (Each Filling (X′ ∷ S′)) (cut-line X′ S′ f k (resized size (next y s))) (fill-cut X′ S′ (keeps (of-fillings (next y s) r) h .filling))
-
--- the numbers, and the shape, at the start of an output
-pub written-words : {xs : List ℕ} → Accepted xs → (S : List Block) (o o′ : List ℕ) → length S ≡ length (shapeOf xs) → o′ ≡ wordsOf S ++ o
-    → take (length xs) o′ ≡ wordsOf S
-written-words {xs} a S o o′ e f =
-    ap (take (length xs)) f
-    ∙ take-at (wordsOf S) o (length xs) (let w = words-length S in let l = shape-length xs in let whole = a .right .whole in omega arith)
-
-pub written-shape : {xs : List ℕ} → Accepted xs → (S : List Block) (o o′ : List ℕ) → length S ≡ length (shapeOf xs) → o′ ≡ wordsOf S ++ o
-    → shapeOf (take (length xs) o′) ≡ S
-written-shape a S o o′ e f = ap shapeOf (written-words a S o o′ e f) ∙ shape-words S

@@ -6,7 +6,6 @@ pub mod Calls
 pub mod Sequences
 pub mod Choices
 pub mod Demands
-pub mod Numbers
 pub mod Relations
 pub mod Cannot
 pub mod Request1

@@ -1,22 +1,22 @@
 -- What the narrowings of two shapes leave, and a join of three,
 -- as the laws of any number of shapes say it. Assumes nothing.
-use mathlib.Core.Path.{_≡_, sym, _∙_, subst}
+use mathlib.Core.Path.{_≡_, sym, subst}
 use mathlib.Core.List.{List, [], _∷_, _++_}
 use Prim.Native.Nat.{ℕ}
-use native.Mathlib.Omega.{arith}
-use lib.ListN.{length, getD, drop, length-append}
+use lib.ListN.{length, getD, drop}
 use Rattle.shapes.specs.Shape.{Block, Fits}
 use Rattle.shapes.specs.Lent.{shapeOf}
-use Rattle.hulls.specs.Hull.{Pairs, None, Hull}
-use Rattle.hulls.proofs.Hull.{same-rule, same-none}
+use Rattle.shapes.proofs.Front.{written-shape}
+use Rattle.hulls.specs.Hull.{Pairs, None}
 use Rattle.pairs.specs.Pair.{PairAccepted}
 use Rattle.pairs.specs.Narrow.{Narrows, NarrowPromise}
+use Rattle.pairs.proofs.Determined.{size-second}
 use Rattle.joins.specs.Refused.{JoinAccepted}
 use Rattle.joins.specs.Join.{Triples, JoinNarrows}
-use Rattle.joins.proofs.Join as join
+use Rattle.joins.proofs.Determined.{size-third}
 use Rattle.demands.specs.Call.{newShape, narrowing, Three}
-use Rattle.demands.specs.Demands.{Each, end, next, Texts, KeepsExactly, ExactTwo, ExactJoin}
-use Rattle.demands.proofs.Exact.{line, cut, Sized, none-texts, some-texts, keeps-exactly, keeps-texts, written-shape}
+use Rattle.demands.specs.Demands.{Each, end, next, TextsFor, KeepsExactly, ExactTwo, ExactJoin}
+use Rattle.demands.proofs.Exact.{line, cut, Sized, none-texts, some-texts, keeps-exactly, keeps-texts}
 
 -- ---- two
 
@@ -25,26 +25,18 @@ abbrev pub OfTwo : (List ℕ → List ℕ → Type 0) → List (List ℕ) → Ty
 OfTwo R t = R (getD t 0 []) (getD t 1 [])
 
 module _ (R : List ℕ → List ℕ → Type 0) (X Y : List Block) where
-  pub two-texts : (t u : List ℕ) → Fits X t → Fits Y u → R t u → Texts (OfTwo R) (X ∷ Y ∷ [])
+  pub two-texts : (t u : List ℕ) → Fits X t → Fits Y u → R t u → TextsFor (OfTwo R) (X ∷ Y ∷ [])
   two-texts t u x y r = record { texts = t ∷ u ∷ []; fit = next x (next y end); satisfy = r }
 
-  pub no-two : None (Pairs R (length X)) (X ++ Y) → Texts (OfTwo R) (X ∷ Y ∷ []) → ⊥
+  pub no-two : None (Pairs R (length X)) (X ++ Y) → TextsFor (OfTwo R) (X ∷ Y ∷ []) → ⊥
   unfolding line cut
   no-two = none-texts (Pairs R (length X)) (OfTwo R) X (Y ∷ []) (λ f p. p) (λ f p. p)
 
 module _ {R : List ℕ → List ℕ → Type 0} {xs ys ox oy ox′ oy′ : List ℕ} (n : Narrows R xs ys ox oy ox′ oy′) where
-  pub size-second : length (n .second) ≡ length (shapeOf ys)
-  size-second =
-      let a = length-append (n .first) (n .second) in
-      let b = length-append (shapeOf xs) (shapeOf ys) in
-      let c = n .hull .size in
-      let e = n .size in
-      omega arith
-
   two-sized : Sized (shapeOf xs ∷ shapeOf ys ∷ []) (n .first ∷ n .second ∷ [])
-  two-sized = next (n .size) (next size-second end)
+  two-sized = next (n .size) (next (size-second n) end)
 
-  pub some-two : Texts (OfTwo R) (shapeOf xs ∷ shapeOf ys ∷ [])
+  pub some-two : TextsFor (OfTwo R) (shapeOf xs ∷ shapeOf ys ∷ [])
   unfolding line cut
   some-two = some-texts (Pairs R (length (shapeOf xs))) (OfTwo R) (shapeOf xs) (shapeOf ys ∷ []) (λ f p. p) (λ f p. p)
       (n .first) (n .second ∷ []) two-sized (n .hull)
@@ -60,7 +52,7 @@ module _ {R : List ℕ → List ℕ → Type 0} {xs ys ox oy ox′ oy′ : List 
     left-first = written-shape (a .first) (n .first) (drop (length xs) ox) ox′ (n .size) (n .first-output)
 
     pub left-second : newShape ys oy′ ≡ n .second
-    left-second = written-shape (a .second) (n .second) (drop (length ys) oy) oy′ size-second (n .second-output)
+    left-second = written-shape (a .second) (n .second) (drop (length ys) oy) oy′ (size-second n) (n .second-output)
 
     -- no two texts that satisfy the relation are lost
     pub two-kept : (t u : List ℕ) → Fits (shapeOf xs) t → Fits (shapeOf ys) u → R t u → Fits (newShape xs ox′) t × Fits (newShape ys oy′) u
@@ -83,7 +75,7 @@ exact-two R = record {
 }
 
 -- two texts there are
-pub of-two : (R : List ℕ → List ℕ → Type 0) {X Y : List Block} → Texts (OfTwo R) (X ∷ Y ∷ []) → (t : List ℕ) × (u : List ℕ) × Fits X t × Fits Y u × R t u
+pub of-two : (R : List ℕ → List ℕ → Type 0) {X Y : List Block} → TextsFor (OfTwo R) (X ∷ Y ∷ []) → (t : List ℕ) × (u : List ℕ) × Fits X t × Fits Y u × R t u
 of-two R {X} {Y} t = go (t .texts) (t .fit) (t .satisfy)
   where
     go : (l : List (List ℕ)) → Each Fits (X ∷ Y ∷ []) l → OfTwo R l → (t : List ℕ) × (u : List ℕ) × Fits X t × Fits Y u × R t u
@@ -102,19 +94,8 @@ abbrev Others : Three → List (List Block)
 Others s = shapeOf (s .y) ∷ shapeOf (s .z) ∷ []
 
 module _ {xs ys zs ox oy oz ox′ oy′ oz′ : List ℕ} (n : JoinNarrows xs ys zs ox oy oz ox′ oy′ oz′) where
-  pub size-third : length (n .third) ≡ length (shapeOf zs)
-  size-third =
-      let a = length-append (n .first) (n .second ++ n .third) in
-      let b = length-append (shapeOf xs) (shapeOf ys ++ shapeOf zs) in
-      let c = length-append (n .second) (n .third) in
-      let d = length-append (shapeOf ys) (shapeOf zs) in
-      let h = n .hull .size in
-      let e = n .size-first in
-      let f = n .size-second in
-      omega arith
-
   three-sized : Sized (shapeOf xs ∷ shapeOf ys ∷ shapeOf zs ∷ []) (n .first ∷ n .second ∷ n .third ∷ [])
-  three-sized = next (n .size-first) (next (n .size-second) (next size-third end))
+  three-sized = next (n .size-first) (next (n .size-second) (next (size-third n) end))
 
   module _ (a : JoinAccepted xs ys zs) where
     pub left-x : newShape xs ox′ ≡ n .first
@@ -124,7 +105,7 @@ module _ {xs ys zs ox oy oz ox′ oy′ oz′ : List ℕ} (n : JoinNarrows xs ys
     left-y = written-shape (a .second) (n .second) (drop (length ys) oy) oy′ (n .size-second) (n .second-output)
 
     left-z : newShape zs oz′ ≡ n .third
-    left-z = written-shape (a .third) (n .third) (drop (length zs) oz) oz′ size-third (n .third-output)
+    left-z = written-shape (a .third) (n .third) (drop (length zs) oz) oz′ (size-third n) (n .third-output)
 
     -- no three texts that satisfy it are lost
     pub three-kept : (t u v : List ℕ) → Fits (shapeOf xs) t → Fits (shapeOf ys) u → Fits (shapeOf zs) v → t ≡ u ++ v
@@ -153,15 +134,3 @@ exact-join = record {
       subst (KeepsExactly Joined (shapeOf (g .x) ∷ Others g)) (λ i. sym (left-x n a) i ∷ sym (left-y n a) i ∷ sym (left-z n a) i ∷ [])
       (keeps-exactly (Asks g) Joined (shapeOf (g .x)) (Others g) (λ f q. q) (λ f q. q) (n .first) (n .second ∷ n .third ∷ []) (three-sized n) (n .hull));
 }
-
--- ---- a triple is a pair of the first shape and the other two laid end to end, with one text
-
-abbrev pub Same : List ℕ → List ℕ → Type 0
-Same t u = t ≡ u
-
-module _ (X Y Z : List Block) where
-  pub pair-none : None (Triples (length X) (length Y)) (X ++ (Y ++ Z)) → None (Pairs Same (length X)) (X ++ (Y ++ Z))
-  pair-none n = same-none (λ f b p. p ∙ join.cut (length Y) (drop (length X) f)) n
-
-  pub pair-hull : {H : List Block} → Hull (Triples (length X) (length Y)) (X ++ (Y ++ Z)) H → Hull (Pairs Same (length X)) (X ++ (Y ++ Z)) H
-  pair-hull h = same-rule (λ f b p. p ∙ sym (join.cut (length Y) (drop (length X) f))) (λ f b p. p ∙ join.cut (length Y) (drop (length X) f)) h

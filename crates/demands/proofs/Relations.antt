@@ -1,23 +1,18 @@
--- What holds of every relation of two texts that a kind names:
--- against equality to the letter, and of rules. Assumes nothing.
-use mathlib.Core.Path.{_≡_, refl, sym, _∙_, subst, subst₂}
+-- What holds of every relation of two texts in which equal texts stand,
+-- against equality to the letter. Assumes nothing.
+use mathlib.Core.Path.{_≡_, refl, sym, _∙_, subst₂}
 use mathlib.Core.List.{List}
-use mathlib.Core.Logic.{_↔_}
-use Prim.Native.Nat.{ℕ, _≤_}
+use Prim.Native.Nat.{ℕ}
 use lib.ListN.{length}
 use lib.Seq.{take-at, drop-at}
-use Rattle.rules.specs.declared.Rule.{Rule}
-use Rattle.rules.specs.Rule.{ruleWith}
 use Rattle.shapes.specs.Shape.{Block}
 use Rattle.shapes.specs.Lent.{shapeOf}
-use Rattle.texts.specs.Kind.{relationOf, joinKind, lastKind}
 use Rattle.hulls.specs.Hull.{Pairs, Satisfies}
 use Rattle.hulls.specs.Book.{Within}
 use Rattle.hulls.proofs.Order.{within-take, within-drop}
 use Rattle.hulls.proofs.Hull.{hull-within, hull-or-none, fewer-none, fewer-within}
 use Rattle.pairs.specs.Pair.{PairAccepted}
 use Rattle.pairs.specs.Narrow.{Narrows, NarrowPromise}
-use Rattle.books.specs.Rules.{RightRule, RightFourth, unused, Keeps, relates}
 use Rattle.demands.specs.Call.{newShape, narrowing}
 use Rattle.demands.specs.Request5.{BesideExact}
 use Rattle.demands.proofs.Narrowed.{left-first, left-second}
@@ -54,21 +49,3 @@ module _ (R : List ℕ → List ℕ → Type 0) (equal : (t u : List ℕ) → t 
               (drop-at (more .first) (more .second) size (more .size) ∙ sym (left-second more a)) (within-drop size w),
         );
   }
-
--- ---- rules
-
-pub asks : (t : Rule) (text : ℕ → List ℕ) (k : ℕ) → t .kind ≡ k → (k ≡ joinKind → ⊥) → Keeps t text ↔ relationOf k (text (t .a)) (text (t .b))
-asks t text k e n = (go, λ r. relates (subst (λ (j : ℕ). relationOf j (text (t .a)) (text (t .b))) (sym e) r))
-  where
-    go : Keeps t text → relationOf k (text (t .a)) (text (t .b))
-    go (relates r) = subst (λ (j : ℕ). relationOf j (text (t .a)) (text (t .b))) e r
-    go (Keeps.joins j q) = absurd (n (sym e ∙ j))
-
--- a rule of two texts is right whatever its kind
-pub right-as : (counts : List ℕ) (j k a b c : ℕ) → k ≤ lastKind → (k ≡ joinKind → ⊥) → (j ≡ joinKind → ⊥) → RightRule counts (ruleWith j a b c)
-    → RightRule counts (ruleWith k a b c)
-right-as counts j k a b c most n m r = record { known = most; first = r .first; second = r .second; two = r .two; fourth = unused n (zero-of (r .fourth)) }
-  where
-    zero-of : RightFourth counts (ruleWith j a b c) → c ≡ 0
-    zero-of (RightFourth.joins e _ _ _) = absurd (m e)
-    zero-of (unused _ e) = e

@@ -14,7 +14,7 @@ use Rattle.shapes.specs.Shape.{Block, noBlock}
 use Rattle.shapes.specs.Wrong.{Crossed, TooLarge, Disagree, BlockRefused}
 use Rattle.shapes.specs.Lent.{shapeOf, RightLength, FirstBlock, BlocksRefused, ShapeRefused, Accepted}
 use Rattle.shapes.proofs.Wrong.{block-not}
-use Rattle.shapes.proofs.Refused.{blocks-tells, shape-tells}
+use Rattle.shapes.proofs.Refused.{blocks-text, shape-text}
 use Rattle.extremes.specs.Extreme.{TextRefused}
 use Rattle.pairs.specs.Pair.{PairRefused, NarrowRefused}
 use Rattle.pairs.specs.Narrow.{NarrowPromise}
@@ -34,7 +34,7 @@ use Rattle.file_runs.specs.Promise.ItsBook.{its-book}
 use Rattle.file_runs.proofs.Ends.{same-book, refused-book}
 use Rattle.host_calls.specs.Host.{negated}
 use Rattle.host_calls.proofs.Numbers.{host-refused}
-use Rattle.demands.specs.Call.{Call, Tells, checkShape, fitsShape, leastText, greatestText, findMark, Two, sweep, NarrowMemory, narrowing, narrowJoin, commonText, BlocksAndPair, judgePair, BothInside, heldBy, CountsAndRules, runBook, givenOf, blocksOf, runFile, HostMemory, runHost}
+use Rattle.demands.specs.Call.{Call, CallTells, checkShape, fitsShape, leastText, greatestText, findMark, Two, sweep, NarrowMemory, narrowing, narrowJoin, commonText, BlocksAndPair, judgePair, BothInside, heldBy, CountsAndRules, runBook, givenOf, lentBlocks, runFile, HostMemory, runHost}
 use Rattle.demands.specs.Demands.{Demand1Of}
 use Rattle.demands.specs.Request1.{OfThree, WrongAt, TellsWhich, SaysWhich, OfPair, TextLookedAt, shapeAmong, SomeBlock, Request1}
 use Rattle.demands.proofs.Refusals as refusals
@@ -121,10 +121,10 @@ abbrev Comes : (Told → Type 0) → ℕ → List Block → Type 0 → Type 0
 Comes Due n s LookedAt = (t : Told) → Due t → t .text ≡ n → OfBlock (t .number) → LookedAt × ((k : ℕ) × FirstBlock n s k t)
 
 module _ (c : Call) (g : c .Given) (m : c .Memory) where
-  pub tells : {t : Told} → Demand1Of c → (c .checked g m .good → ⊥) → c .checked g m .due t → Tells c g m t
+  pub tells : {t : Told} → Demand1Of c → (c .checked g m .good → ⊥) → c .checked g m .due t → CallTells c g m t
   tells D n d m′ r p = let x = D .malformed n r p in (x .0, x .1, D .one-refusal g m _ _ (x .2) d)
 
-  which : {n : ℕ} {s : List Block} {LookedAt : Type 0} → ((t : Told) → LookedAt → (p : ℕ) → FirstBlock n s p t → Tells c g m t) → TellsWhich c g m n s LookedAt
+  which : {n : ℕ} {s : List Block} {LookedAt : Type 0} → ((t : Told) → LookedAt → (p : ℕ) → FirstBlock n s p t → CallTells c g m t) → TellsWhich c g m n s LookedAt
   which {n} to = each (λ k Wrong b l p w. to (tell k n p) l p (b .to w))
 
   says : Refuses c → {n : ℕ} {s : List Block} {LookedAt : Type 0} → ((t : Told) → LookedAt → (p : ℕ) → FirstBlock n s p t → c .checked g m .due t)
@@ -136,12 +136,6 @@ module _ (c : Call) (g : c .Given) (m : c .Memory) where
   }
 
 -- ---- a shape
-
-blocks-text : {n : ℕ} {s : List Block} {t : Told} → BlocksRefused n s t → t .text ≡ n
-blocks-text {n} p = blocks-tells (λ (u : Told). u .text ≡ n) (λ i. (refl, refl, refl)) refl p
-
-shape-text : {n : ℕ} {xs : List ℕ} {t : Told} → ShapeRefused n xs t → t .text ≡ n
-shape-text {n} p = shape-tells (λ (u : Told). u .text ≡ n) refl (λ i. (refl, refl, refl)) refl p
 
 blocks-back : {n : ℕ} {s : List Block} {t : Told} → BlocksRefused n s t → OfBlock (t .number) → (k : ℕ) × FirstBlock n s k t
 blocks-back (here f) o = f
@@ -287,17 +281,17 @@ module _ (book : CountsAndRules) (blocks : List ℕ) (k : ℕ) where
   book-back w t (later c (later s (later r (here d)))) x o = absurd (no-4 (d .tells) o)
 
 module _ (file : List ℕ) (b : Book) (a : FileAccepted file b) (k : ℕ) where
-  run-to : (w room : ℕ) (t : Told) → TextLookedAt (givenOf b) (blocksOf b) k → (i : ℕ)
-      → FirstBlock k (shapeAmong (givenOf b) (blocksOf b) k) i t → RunRefused file w room t
-  run-to w room t l i f = refused-book a (here (book-to (givenOf b) (blocksOf b) k w t l i f))
+  run-to : (w room : ℕ) (t : Told) → TextLookedAt (givenOf b) (lentBlocks b) k → (i : ℕ)
+      → FirstBlock k (shapeAmong (givenOf b) (lentBlocks b) k) i t → RunRefused file w room t
+  run-to w room t l i f = refused-book a (here (book-to (givenOf b) (lentBlocks b) k w t l i f))
 
-  run-back : (w room : ℕ) → Comes (RunRefused file w room) k (shapeAmong (givenOf b) (blocksOf b) k) (TextLookedAt (givenOf b) (blocksOf b) k)
+  run-back : (w room : ℕ) → Comes (RunRefused file w room) k (shapeAmong (givenOf b) (lentBlocks b) k) (TextLookedAt (givenOf b) (lentBlocks b) k)
   run-back w room t (here (here p)) x o =
       absurd (other (p .tells) (λ (z : _≡_ {A = ℕ} 9 2). omega arith) (λ (z : _≡_ {A = ℕ} 9 10). omega arith) (λ (z : _≡_ {A = ℕ} 9 11). omega arith) o)
   run-back w room t (here (later s (here p))) x o =
       absurd (other (p .2) (λ (z : _≡_ {A = ℕ} 8 2). omega arith) (λ (z : _≡_ {A = ℕ} 8 10). omega arith) (λ (z : _≡_ {A = ℕ} 8 11). omega arith) o)
   run-back w room t (later _ (here (its-book c (here p)))) x o =
-      book-back (givenOf b) (blocksOf b) k w t (same-book (λ (cs bs rs : List ℕ). BookRefused cs bs rs w t) a c p) x o
+      book-back (givenOf b) (lentBlocks b) k w t (same-book (λ (cs bs rs : List ℕ). BookRefused cs bs rs w t) a c p) x o
   run-back w room t (later _ (here (its-book c (later g (here d))))) x o = absurd (no-5 (d .tells) o)
 
 -- ---- a host, which gets the number alone
@@ -305,7 +299,7 @@ module _ (file : List ℕ) (b : Book) (a : FileAccepted file b) (k : ℕ) where
 module _ {file : List ℕ} {b : Book} (a : FileAccepted file b) (m m′ : HostMemory) where
   -- the text and the block that the number stands for
   host-block : (k : ℕ) (Wrong : Block → Type 0) → StandsFor k Wrong → (q : Refusal) → told q .number ≡ k → runHost .Promise file m m′ (negated q)
-      → SomeBlock (givenOf b) (blocksOf b) Wrong
+      → SomeBlock (givenOf b) (lentBlocks b) Wrong
   host-block k Wrong s q e p =
       let r = host-refused file (m .report) (m .work) (m′ .report) (m′ .work) q p in
       let t = told (r .0) in
@@ -316,10 +310,10 @@ module _ {file : List ℕ} {b : Book} (a : FileAccepted file b) (m m′ : HostMe
         text = t .text;
         place = t .place;
         looked-at = f .0;
-        wrong = s .back (subst (FirstBlock (t .text) (shapeAmong (givenOf b) (blocksOf b) (t .text)) (f .1 .0)) same (f .1 .1));
+        wrong = s .back (subst (FirstBlock (t .text) (shapeAmong (givenOf b) (lentBlocks b) (t .text)) (f .1 .0)) same (f .1 .1));
       }
 
-  host-only : OfThree (λ k Wrong. runHost .Promise file m m′ (negℤ (pos k)) → SomeBlock (givenOf b) (blocksOf b) Wrong)
+  host-only : OfThree (λ k Wrong. runHost .Promise file m m′ (negℤ (pos k)) → SomeBlock (givenOf b) (lentBlocks b) Wrong)
   host-only = record {
     two = λ p. host-block 2 _ (three .two) (Refusal.Crossed 1 1) refl p;
     ten = λ p. host-block 10 _ (three .ten) (Refusal.TooLarge 1 1) refl p;

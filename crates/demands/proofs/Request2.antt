@@ -15,6 +15,7 @@ use Rattle.shapes.proofs.Fits.{fits-length}
 use Rattle.texts.specs.Order.{AtMost}
 use Rattle.texts.proofs.Order.{at-most-antisym, at-most-head, at-most-tail}
 use Rattle.hulls.proofs.Frame.{some-filling}
+use Rattle.walks.specs.Walk.{Same}
 use Rattle.pairs.proofs.Pair.{narrow-not}
 use Rattle.common_texts.specs.Earliest.{Earliest}
 use Rattle.common_calls.specs.Common.{ShowRoom}
@@ -22,7 +23,7 @@ use Rattle.common_calls.proofs.Common.{show-refused-not, earliest-one}
 use Rattle.demands.specs.Call.{leastText, Two, NarrowMemory, HasRoom, narrowExact, CommonMemory, commonText}
 use Rattle.demands.specs.Request2.{FitsBoth, twice, Request2}
 use Rattle.demands.proofs.Demands.{demand-2, written}
-use Rattle.demands.proofs.Narrowed.{Same, two-texts, of-two, two-kept}
+use Rattle.demands.proofs.Narrowed.{two-texts, of-two, two-kept}
 
 module _ {s : Two} {m m′ : CommonMemory} (n : ℕ) (p : commonText .Promise s m m′ (Shown.Text n)) where
   shown : take n (m′ .out) ≡ p .1 .text

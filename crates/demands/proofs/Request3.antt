@@ -1,36 +1,33 @@
 -- Request 3 of document 02 holds: each field by citation. Assumes nothing.
-use mathlib.Core.Path.{_≡_, refl, sym, ap, ap₂, _∙_, subst, subst₂}
+use mathlib.Core.Path.{_≡_, refl, sym, ap, ap₂, _∙_, subst}
 use mathlib.Core.List.{List, [], _∷_, _++_, map, append-assoc, append-nil}
-use mathlib.Core.Logic.{_↔_}
-use Prim.Native.Nat.{ℕ, _+_, _%_, _≤_, _<_}
+use Prim.Native.Nat.{ℕ, _+_, _<_}
 use native.Mathlib.Omega.{arith}
 use lib.ListN.{length}
-use lib.Seq.{take-at, drop-at}
 use Rattle.answers.specs.Told.{Told}
 use Rattle.answers.specs.Turns.{here, later}
 use Rattle.answers.proofs.Turns.{lacks}
 use Rattle.answers.specs.declared.Narrowed.{Narrowed}
 use Rattle.rules.specs.declared.Rule.{Rule}
-use Rattle.rules.specs.Rule.{ruleAt, ruleCount}
+use Rattle.rules.specs.Rule.{ruleAt}
 use Rattle.shapes.specs.Shape.{Block, total}
 use Rattle.shapes.specs.Lent.{shapeOf, wordsOf}
-use Rattle.shapes.proofs.Refused.{blocks-tells}
-use Rattle.texts.specs.Kind.{relationOf, joinKind}
+use Rattle.texts.specs.Kind.{joinKind}
 use Rattle.hulls.specs.Hull.{Pairs, None, Hull}
-use Rattle.hulls.specs.Book.{Within}
-use Rattle.hulls.proofs.Order.{within-refl, within-take, within-drop, within-join}
-use Rattle.hulls.proofs.Hull.{one-hull, hull-or-none, hull-within, between}
+use Rattle.hulls.proofs.Hull.{one-hull, hull-or-none, left-hull}
+use Rattle.walks.specs.Walk.{Same}
 use Rattle.pairs.proofs.Pair.{narrow-not}
-use Rattle.joins.specs.Refused.{JoinAccepted}
-use Rattle.joins.proofs.Line.{line-shape}
+use Rattle.pairs.proofs.Determined.{size-second}
 use Rattle.shapes.proofs.Numbers.{words-append}
 use Rattle.joins.specs.Join.{Triples}
 use Rattle.joins.proofs.Refused.{join-refused-not}
-use Rattle.joins.proofs.Determined.{apart}
-use Rattle.books.specs.Counts.{RightCounts, shapeIn}
-use Rattle.books.specs.Rules.{Joinable, Keeps, relates}
+use Rattle.joins.proofs.Determined.{apart, size-third}
+use Rattle.joins.proofs.Join.{pair-none, pair-hull, line-pairs, join-pair}
+use Rattle.books.specs.Counts.{shapeIn}
+use Rattle.books.specs.Rules.{Joinable}
 use Rattle.books.specs.Refused.{RuleRefused, BookRefused}
-use Rattle.books.proofs.Refused.{rule-tells}
+use Rattle.books.proofs.Refused.{fours-pass}
+use Rattle.books.proofs.Asks.{join-asks, relates-asks}
 use Rattle.books.proofs.Tell.{first-rule}
 use Rattle.books.proofs.Fourth.{third-named, third-not-first, third-not-second, fourth-zero}
 use Rattle.file_lines.specs.declared.Heading.the-variants.{Texts, Blocks, Rules}
@@ -39,26 +36,9 @@ use Rattle.file_lines.specs.Book.{Book, sheetParts, bookParts}
 use Rattle.demands.specs.Call.{NarrowMemory, newNumbers, newShape, narrowExact, Three, JoinMemory, narrowJoin, runBook}
 use Rattle.demands.specs.Request3.{fourNumbers, RuleTried, beside, firstLeft, Request3}
 use Rattle.demands.proofs.Refusals.{run-book}
-use Rattle.demands.proofs.Exact.{written-words}
-use Rattle.demands.proofs.Narrowed.{size-second, size-third, left-x, three-kept, Same, pair-none, pair-hull}
+use Rattle.shapes.proofs.Front.{written-words}
+use Rattle.demands.proofs.Narrowed.{left-x, three-kept}
 use Rattle.demands.proofs.Request1.{tells}
-
--- ---- what a rule asks
-
-join-asks : (t : Rule) (text : ℕ → List ℕ) → t .kind ≡ joinKind → Keeps t text ↔ (text (t .a) ≡ text (t .b) ++ text (t .c))
-unfolding relationOf
-join-asks t text e = (go, λ q. Keeps.joins e q)
-  where
-    go : Keeps t text → text (t .a) ≡ text (t .b) ++ text (t .c)
-    go (relates r) = absurd (subst (λ (k : ℕ). relationOf k (text (t .a)) (text (t .b))) e r)
-    go (Keeps.joins _ q) = q
-
-others-ask : (t : Rule) (text : ℕ → List ℕ) → (t .kind ≡ joinKind → ⊥) → Keeps t text ↔ relationOf (t .kind) (text (t .a)) (text (t .b))
-others-ask t text n = (go, λ r. relates r)
-  where
-    go : Keeps t text → relationOf (t .kind) (text (t .a)) (text (t .b))
-    go (relates r) = r
-    go (Keeps.joins e q) = absurd (n e)
 
 -- ---- four numbers
 
@@ -76,26 +56,6 @@ in-the-file b =
     let rules = headLine (wordOf Rules) (length (b .rules)) in
     (texts ++ (blocks ++ (rules ∷ [])), ap joined (last-lines texts blocks rules (map fourNumbers (b .rules))))
 
--- no refusal of a block, a total or a rule is 6
-abbrev NotSix : Told → Type 0
-NotSix t = t .number ≡ 6 → ⊥
-
-fours-pass : {counts blocks rules : List ℕ} {w : ℕ} {t : Told} → BookRefused counts blocks rules w t → t .number ≡ 6 → RightCounts counts blocks []
-    → length rules % 4 ≡ 0
-    → ruleCount rules ≤ 16 → ⊥
-fours-pass (here d) s c whole few = d .lacking (record {
-  some-texts = c .some-texts;
-  few-texts = c .few-texts;
-  each = c .each;
-  whole-blocks = c .whole-blocks;
-  whole-rules = whole;
-  few-rules = few;
-})
-fours-pass (later _ (here (k, f))) s c whole few =
-    blocks-tells NotSix (λ i. ((λ e. omega (arith, e)), (λ e. omega (arith, e)), (λ e. omega (arith, e)))) (λ e. omega (arith, e)) (f .refused) s
-fours-pass (later _ (later _ (here (i, f)))) s c whole few = rule-tells NotSix (λ e. omega (arith, e)) (λ e. omega (arith, e)) (f .refused) s
-fours-pass (later _ (later _ (later _ (here d)))) s c whole few = let z : _≡_ {A = ℕ} 4 6 = sym (ap (λ (u : Told). u .number) (d .tells)) ∙ s in omega arith
-
 over-long : {counts : List ℕ} {S : List Block} {t : Rule} → t .kind ≡ joinKind
     → 250 < total (shapeIn counts S (t .b)) + total (shapeIn counts S (t .c)) → Joinable counts S t → ⊥
 over-long e h j = let s = j .short e in omega arith
@@ -108,14 +68,6 @@ rule-first {counts} {blocks} {rules} i r d =
     later (r .counted) (later (r .texts) (here (i + 1, first-rule counts (shapeOf blocks) rules i (r .within) (r .before) d)))
 
 -- ---- from what the first shape was left
-
--- the first part of the hull in its place, all the rest as entered
-left-hull : {P : List (List ℕ) → Type 0} (X L I J : List Block) → length I ≡ length X → Hull P (X ++ L) (I ++ J) → Hull P (I ++ L) (I ++ J)
-left-hull X L I J e h =
-    let w = hull-within h in
-    let first : Within I X = subst₂ Within (take-at I J (length X) e) (take-at X L (length X) refl) (within-take (length X) w) in
-    let rest : Within J L = subst₂ Within (drop-at I J (length X) e) (drop-at X L (length X) refl) (within-drop (length X) w) in
-    between h (within-join (within-refl I) rest) (within-join first (within-refl L))
 
 from-first : {s : Three} {m m′ n n′ : JoinMemory} → narrowJoin .Promise s m m′ Narrowed.Narrow → narrowJoin .Promise (firstLeft s m′) n n′ Narrowed.Narrow
     → (newNumbers (s .y) (n′ .out-y) ≡ newNumbers (s .y) (m′ .out-y)) × (newNumbers (s .z) (n′ .out-z) ≡ newNumbers (s .z) (m′ .out-z))
@@ -140,15 +92,6 @@ from-first {s} {m′ = m′} {n′ = n′} p q =
     )
 
 -- ---- beside equality
-
-module _ {xs ys zs : List ℕ} (ok : JoinAccepted xs ys zs) where
-  -- the pairs of x and the line, whichever way the line is written
-  line-pairs : (P : List Block → Type 0) → P (shapeOf xs ++ (shapeOf ys ++ shapeOf zs)) → P (shapeOf xs ++ shapeOf (ys ++ zs))
-  line-pairs P p = subst (λ (L : List Block). P (shapeOf xs ++ L)) (sym (line-shape ok)) p
-
-  join-pair : {H : List Block} → Hull (Pairs Same (length (shapeOf xs))) (shapeOf xs ++ (shapeOf ys ++ shapeOf zs)) H
-      → Hull (Pairs Same (length (shapeOf xs))) (shapeOf xs ++ shapeOf (ys ++ zs)) H
-  join-pair {H} h = line-pairs (λ (S : List Block). Hull (Pairs Same (length (shapeOf xs))) S H) h
 
 module _ (s : Three) (m m′ : JoinMemory) (n n′ : NarrowMemory) where
   none-there : (u : Narrowed) → narrowJoin .Promise s m m′ Narrowed.None → narrowExact .Promise (beside s) n n′ u
@@ -189,7 +132,7 @@ same-numbers {s} {m′ = m′} {n′ = n′} p q =
 pub request-3 : Request3
 request-3 = record {
   join-asks = join-asks;
-  others-ask = others-ask;
+  others-ask = λ t text. relates-asks t text (t .kind) refl;
   four-numbers = λ a. let e = a .counted .whole-rules in omega arith;
   in-the-file = λ n p. let f = in-the-file (p .book) in (p .book, p .written .accepted, (f .0, p .accepted .accepts .is ∙ f .1));
   six-fours = λ g m n. tells runBook g m (run-book .demand) (λ a. n (a .counted .whole-rules)) (here (lacks (λ c. n (c .whole-rules))));

@@ -6,7 +6,8 @@ use Rattle.texts.specs.Padding.{Padded}
 use Rattle.texts.specs.Kind.{relationOf}
 use Rattle.texts.proofs.Padding.{padded-refl, padded-sym, padded-trans, padded-equal, padded-blanks, blanks-empty, trimmed-blanks, padded-behind, behind-padded, leading-counts, inner-counts, none-left, orders-count, orders-count-back}
 use Rattle.demands.specs.Request5.{Request5}
-use Rattle.demands.proofs.Relations.{beside-exact, asks, right-as}
+use Rattle.demands.proofs.Relations.{beside-exact}
+use Rattle.books.proofs.Asks.{relates-asks, right-as}
 use Rattle.demands.proofs.Cannot.{cannot-no-ground}
 
 pub request-5 : Request5
@@ -26,8 +27,8 @@ request-5 = record {
   orders-count-back = orders-count-back;
   cannot-no-ground = cannot-no-ground;
   beside-exact = beside-exact Padded (λ t u. padded-equal);
-  asks-padded = λ t text e. asks t text 0 e (λ (z : _≡_ {A = ℕ} 0 3). omega arith);
-  asks-exact = λ t text e. asks t text 4 e (λ (z : _≡_ {A = ℕ} 4 3). omega arith);
+  asks-padded = λ t text e. relates-asks t text 0 e (λ (z : _≡_ {A = ℕ} 0 3). omega arith);
+  asks-exact = λ t text e. relates-asks t text 4 e (λ (z : _≡_ {A = ℕ} 4 3). omega arith);
   four-right = λ counts a b c. (
     right-as counts 4 0 a b c (omega arith) (λ (z : _≡_ {A = ℕ} 0 3). omega arith) (λ (z : _≡_ {A = ℕ} 4 3). omega arith),
     right-as counts 0 4 a b c (omega arith) (λ (z : _≡_ {A = ℕ} 4 3). omega arith) (λ (z : _≡_ {A = ℕ} 0 3). omega arith),

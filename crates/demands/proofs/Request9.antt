@@ -25,7 +25,8 @@ use Rattle.case_texts.proofs.Respelled.{both-stay}
 use Rattle.demands.specs.Call.{Two, NarrowMemory, newShape, HasRoom, narrowExact, narrowAnyCase}
 use Rattle.demands.specs.Request9.{WideBoth, Request9}
 use Rattle.demands.proofs.Narrowed.{left-first, left-second}
-use Rattle.demands.proofs.Relations.{left-within, beside-exact, asks, right-as}
+use Rattle.demands.proofs.Relations.{left-within, beside-exact}
+use Rattle.books.proofs.Asks.{relates-asks, right-as}
 use Rattle.demands.proofs.Cannot.{case-no-ground}
 
 -- ---- what is left
@@ -91,7 +92,7 @@ request-9 = record {
   both-stay = λ s m m′ r x y a room p. both-narrow s x y a m m′ r room p;
   as-before = case-no-ground;
   beside-exact = beside-exact AnyCase (λ t u. any-case-equal);
-  asks-any-case = λ t text e. asks t text 5 e (λ (z : _≡_ {A = ℕ} 5 3). omega arith);
+  asks-any-case = λ t text e. relates-asks t text 5 e (λ (z : _≡_ {A = ℕ} 5 3). omega arith);
   none-new = λ s m m′ q. (λ p. p, λ p. p);
   five-right = λ counts a b c. (
     right-as counts 5 0 a b c (omega arith) (λ (z : _≡_ {A = ℕ} 0 3). omega arith) (λ (z : _≡_ {A = ℕ} 5 3). omega arith),

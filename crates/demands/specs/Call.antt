@@ -26,7 +26,7 @@ use Rattle.joins.specs.Refused.{ofJoin}
 use Rattle.common_calls.specs.Common.{ofShowing}
 use Rattle.sweep_calls.specs.Sweep.{sweepTurns}
 use Rattle.tray_pairs.specs.Judged.{recorded, recordTurns, RecordAccepted, Judged}
-use Rattle.tray_pairs.specs.Ranges.{Inside, lentIn}
+use Rattle.tray_pairs.specs.Ranges.{RangeInside, lentIn}
 use Rattle.tray_pairs.specs.declared.Pair.{Pair as TrayPair}
 use Rattle.tray_pairs.specs.declared.Range.{Range}
 use Rattle.trays.specs.Tray.{trayTurns, TrayAccepted}
@@ -58,8 +58,8 @@ call Given Memory {Answer} refused Promise checked =
     record { Given = Given; Memory = Memory; Answer = Answer; Promise = Promise; refused = refused; checked = checked }
 
 -- The call tells t: every answer that its promise permits is a refusal that tells t.
-abbrev pub Tells : (c : Call) → c .Given → c .Memory → Told → Type 0
-Tells c g m t = (m′ : c .Memory) (r : c .Answer) → c .Promise g m m′ r → (q : Refusal) × (r ≡ c .refused q) × (told q ≡ t)
+abbrev pub CallTells : (c : Call) → c .Given → c .Memory → Told → Type 0
+CallTells c g m t = (m′ : c .Memory) (r : c .Answer) → c .Promise g m m′ r → (q : Refusal) × (r ≡ c .refused q) × (told q ≡ t)
 
 -- ---- a shape
 
@@ -190,7 +190,7 @@ judgePair = call BlocksAndPair Unit (λ q. recorded (Swept.Refused q))
 
 -- A range lies inside the whole blocks lent, and both of a pair do; what these hold.
 abbrev pub InsideOf : List ℕ → Range → Type 0
-InsideOf blocks r = Inside (blockCount blocks) r
+InsideOf blocks r = RangeInside (blockCount blocks) r
 
 pub record BothInside (g : BlocksAndPair) : Type 0 where
   pub first : InsideOf (g .blocks) (g .pair .x)
@@ -226,14 +226,14 @@ AcceptedWith g blocks w = BookAccepted (g .counts) blocks (g .rules) w
 abbrev pub givenOf : Book → CountsAndRules
 givenOf b = countsAndRules (b .sheet .counts) (numbersOfAll (b .rules))
 
-abbrev pub blocksOf : Book → List ℕ
-blocksOf b = wordsOf (b .sheet .blocks)
+abbrev pub lentBlocks : Book → List ℕ
+lentBlocks b = wordsOf (b .sheet .blocks)
 
 -- The file is the writing of a book that is accepted with a work buffer of `work` bytes, and its report has room.
 pub record FileAcceptable (file : List ℕ) (work room : ℕ) : Type 0 where
   pub its-book : Book
   pub writing : FileAccepted file its-book
-  pub accepted : AcceptedWith (givenOf its-book) (blocksOf its-book) work
+  pub accepted : AcceptedWith (givenOf its-book) (lentBlocks its-book) work
   pub enough : fileLimit ≤ room
 
 -- the memory is the report

@@ -75,7 +75,7 @@ pub data Each {A B : Type 0} (P : A → B → Type 0) : List A → List B → Ty
   next : {a : A} {b : B} {l : List A} {k : List B} → P a b → Each P l k → Each P (a ∷ l) (b ∷ k)
 
 -- A text for each of the shapes S, that together satisfy R.
-pub record Texts (R : List (List ℕ) → Type 0) (S : List (List Block)) : Type 0 where
+pub record TextsFor (R : List (List ℕ) → Type 0) (S : List (List Block)) : Type 0 where
   pub texts : List (List ℕ)
   pub fit : Each Fits S texts
   pub satisfy : R texts
@@ -97,8 +97,8 @@ pub record KeepsExactly (R : List (List ℕ) → Type 0) (S S′ : List (List Bl
 pub record Exact (R : List (List ℕ) → Type 0) {Given Memory : Type 0} (Promise : Given → Memory → Memory → Narrowed → Type 0)
     (entered : Given → List (List Block)) (left : Given → Memory → List (List Block)) : Type 0 where
   -- "'none' comes exactly if no pair of texts satisfies the rule"
-  pub none-sound : {g : Given} {m m′ : Memory} → Promise g m m′ Narrowed.None → Texts R (entered g) → ⊥
-  pub none-complete : {g : Given} {m m′ : Memory} → Promise g m m′ Narrowed.Narrow → Texts R (entered g)
+  pub none-sound : {g : Given} {m m′ : Memory} → Promise g m m′ Narrowed.None → TextsFor R (entered g) → ⊥
+  pub none-complete : {g : Given} {m m′ : Memory} → Promise g m m′ Narrowed.Narrow → TextsFor R (entered g)
   -- "otherwise each block keeps exactly the characters, and the least
   -- and greatest count, that some satisfying pair of fillings gives it"
   pub keeps : {g : Given} {m m′ : Memory} → Promise g m m′ Narrowed.Narrow → KeepsExactly R (entered g) (left g m′)

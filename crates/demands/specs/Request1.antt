@@ -14,7 +14,7 @@ use Rattle.books.specs.Counts.{RightCounts, shapeIn, SoundText}
 use Rattle.books.specs.Rules.{Names}
 use Rattle.file_lines.specs.Book.{Book}
 use Rattle.files.specs.Departs.{FileAccepted}
-use Rattle.demands.specs.Call.{Call, Tells, checkShape, ShapeAndText, fitsShape, leastText, greatestText, ShapeAndMark, findMark, Two, sweep, NarrowMemory, narrowPadded, narrowExact, narrowAnyCase, narrowAtMost, narrowBefore, Three, JoinMemory, narrowJoin, CommonMemory, commonText, BlocksAndPair, judgePair, BothInside, heldBy, CountsAndRules, BookMemory, runBook, givenOf, blocksOf, runFile, HostMemory, runHost}
+use Rattle.demands.specs.Call.{Call, CallTells, checkShape, ShapeAndText, fitsShape, leastText, greatestText, ShapeAndMark, findMark, Two, sweep, NarrowMemory, narrowPadded, narrowExact, narrowAnyCase, narrowAtMost, narrowBefore, Three, JoinMemory, narrowJoin, CommonMemory, commonText, BlocksAndPair, judgePair, BothInside, heldBy, CountsAndRules, BookMemory, runBook, givenOf, lentBlocks, runFile, HostMemory, runHost}
 
 -- What is said of each of the three numbers, and of what is wrong with a block that it stands for.
 pub record OfThree (Says : ℕ → (Block → Type 0) → Type 0) : Type 0 where
@@ -36,7 +36,7 @@ pub record WrongAt (s : List Block) (p : ℕ) (Wrong : Block → Type 0) : Type 
 -- The number is told of the shape s, its number n, once the blocks of s are looked at. "Text and place stay the shape's
 -- and the block's number", "at the first bad block".
 abbrev pub TellsWhich : (c : Call) → c .Given → c .Memory → ℕ → List Block → Type 0 → Type 0
-TellsWhich c g m n s LookedAt = OfThree (λ k Wrong. LookedAt → (p : ℕ) → WrongAt s p Wrong → Tells c g m (tell k n p))
+TellsWhich c g m n s LookedAt = OfThree (λ k Wrong. LookedAt → (p : ℕ) → WrongAt s p Wrong → CallTells c g m (tell k n p))
 
 -- "2 now means lower above upper only", and 10 and 11 likewise: where
 -- one of them is told, this is wrong with the block that is named.
@@ -95,9 +95,9 @@ pub record Request1 : Type 0 where
   pub join-pair : (s : Three) (m : JoinMemory) → OfPair narrowJoin s m (s .x) (s .y)
   pub join-third : (s : Three) (m : JoinMemory) → SaysWhich narrowJoin s m 3 (shapeOf (s .z)) (Accepted (s .x) × Accepted (s .y) × RightLength (s .z))
   pub run-book : (g : CountsAndRules) (m : BookMemory) (k : ℕ) → OfText runBook g m g (m .blocks) k
-  pub run-file : (file report : List ℕ) (b : Book) → FileAccepted file b → (k : ℕ) → OfText runFile file report (givenOf b) (blocksOf b) k
+  pub run-file : (file report : List ℕ) (b : Book) → FileAccepted file b → (k : ℕ) → OfText runFile file report (givenOf b) (lentBlocks b) k
   -- (a C host gets the number alone)
   pub run-host : (file : List ℕ) (m : HostMemory) (b : Book) → FileAccepted file b → (k : ℕ)
-      → TellsWhich runHost file m k (shapeAmong (givenOf b) (blocksOf b) k) (TextLookedAt (givenOf b) (blocksOf b) k)
+      → TellsWhich runHost file m k (shapeAmong (givenOf b) (lentBlocks b) k) (TextLookedAt (givenOf b) (lentBlocks b) k)
   pub host-only : {file : List ℕ} {b : Book} (m m′ : HostMemory) → FileAccepted file b
-      → OfThree (λ k Wrong. runHost .Promise file m m′ (negℤ (pos k)) → SomeBlock (givenOf b) (blocksOf b) Wrong)
+      → OfThree (λ k Wrong. runHost .Promise file m m′ (negℤ (pos k)) → SomeBlock (givenOf b) (lentBlocks b) Wrong)

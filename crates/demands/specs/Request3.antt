@@ -20,7 +20,7 @@ use Rattle.books.specs.Refused.{SoundTexts, SoundRule, BookRefused}
 use Rattle.file_numerals.specs.Digits.{decimal}
 use Rattle.file_lines.specs.Grammar.{joined}
 use Rattle.file_lines.specs.Book.{Book}
-use Rattle.demands.specs.Call.{Tells, Two, NarrowMemory, newNumbers, newShape, narrowExact, Three, JoinMemory, narrowJoin, CountsAndRules, BookMemory, runBook, AcceptedWith, givenOf, blocksOf, runFile}
+use Rattle.demands.specs.Call.{CallTells, Two, NarrowMemory, newNumbers, newShape, narrowExact, Three, JoinMemory, narrowJoin, CountsAndRules, BookMemory, runBook, AcceptedWith, givenOf, lentBlocks, runFile}
 
 -- A rule's line in a file: its four numbers, with single blanks.
 abbrev pub fourNumbers : Rule → List ℕ
@@ -51,10 +51,10 @@ pub record Request3 : Type 0 where
   -- "in the file too": a file that is not refused ends with a
   -- line of four numbers for each rule of the book that is run
   pub in-the-file : {file report report′ : List ℕ} (n : ℕ) → runFile .Promise file report report′ (Written.Text n)
-      → (b : Book) × AcceptedWith (givenOf b) (blocksOf b) 63001 × ((front : List (List ℕ)) × (file ≡ joined (front ++ map fourNumbers (b .rules))))
+      → (b : Book) × AcceptedWith (givenOf b) (lentBlocks b) 63001 × ((front : List (List ℕ)) × (file ≡ joined (front ++ map fourNumbers (b .rules))))
   -- "6 reads fours of numbers where it read triples": rules that are no whole
   -- fours are refused by 6, and whole fours, up to 16, are no ground for it
-  pub six-fours : (g : CountsAndRules) (m : BookMemory) → (length (g .rules) % 4 ≡ 0 → ⊥) → Tells runBook g m (tell 6 0 0)
+  pub six-fours : (g : CountsAndRules) (m : BookMemory) → (length (g .rules) % 4 ≡ 0 → ⊥) → CallTells runBook g m (tell 6 0 0)
   pub fours-pass : {g : CountsAndRules} {m m′ : BookMemory} (q : Refusal) → runBook .Promise g m m′ (Ran.Refused q) → told q .number ≡ 6
       → RightCounts (g .counts) (m .blocks) [] → length (g .rules) % 4 ≡ 0 → ruleCount (g .rules) ≤ 16 → ⊥
   -- "the fourth is 0 except in kind 3, where it is c", and "a, b, c are .. three different texts"

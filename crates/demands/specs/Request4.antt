@@ -15,7 +15,7 @@ use Rattle.files.specs.Departs.{FileAccepted}
 use Rattle.file_runs.specs.Ends.{FileEnds}
 use Rattle.file_reports.specs.Report.{Verdict, reportOf}
 use Rattle.host_calls.specs.Host.{negated, handed}
-use Rattle.demands.specs.Call.{AcceptedWith, givenOf, blocksOf, runFile, HostMemory, runHost}
+use Rattle.demands.specs.Call.{AcceptedWith, givenOf, lentBlocks, runFile, HostMemory, runHost}
 
 -- Where the host gets the number n.
 pub record WhereWritten (book : List ℕ) (m m′ : HostMemory) (n : ℕ) : Type 0 where
@@ -49,4 +49,4 @@ pub record Request4 : Type 0 where
   -- "Refusals: 5 last": it says that the book is accepted, with
   -- the work buffer lent, and only the report buffer is too short
   pub five-last : {book : List ℕ} {m m′ : HostMemory} → runHost .Promise book m m′ (negℤ (pos 5))
-      → (b : Book) × FileAccepted book b × AcceptedWith (givenOf b) (blocksOf b) (length (m .work)) × (length (m .report) < fileLimit)
+      → (b : Book) × FileAccepted book b × AcceptedWith (givenOf b) (lentBlocks b) (length (m .work)) × (length (m .report) < fileLimit)

@@ -15,7 +15,7 @@ use Rattle.shapes.specs.Lent.{Numbers, shapeOf, Accepted, ShapeRefused}
 use Rattle.find_texts.specs.Occurs.{OccursAt, Lacks, FirstAt, SomeLacks, SomeFirst}
 use Rattle.find_calls.specs.Find.{Asked, lacking, leastIndex, greatestIndex}
 use Rattle.dashed.specs.Promises.{FindMark}
-use Rattle.demands.specs.Call.{Tells, ShapeAndMark, findMark}
+use Rattle.demands.specs.Call.{CallTells, ShapeAndMark, findMark}
 
 -- "Given a fixed mark of 0 to 64 bytes and a shape": xs are the shape's numbers, and r is the answer.
 pub record WhereAsked (xs mark : List ℕ) (r : Sought) : Type 0 where
@@ -47,7 +47,7 @@ pub record Request7 : Type 0 where
   pub empty-mark : (t : List ℕ) → FirstAt [] t 1
   pub empty-answer : {xs : List ℕ} (r : Sought) → Accepted xs → FindMark xs [] r → (lacking r ≡ false) × (leastIndex r ≡ 1) × (greatestIndex r ≡ 1)
   -- "Refusals: the shape's first": with text 1, whatever the mark
-  pub shape-first : (g : ShapeAndMark) (t : Told) → ShapeRefused 1 (g .shape) t → Tells findMark g tt t
+  pub shape-first : (g : ShapeAndMark) (t : Told) → ShapeRefused 1 (g .shape) t → CallTells findMark g tt t
   -- "then 13 if the mark is over 64 bytes, place 0": of no text, and only then
-  pub thirteen : (g : ShapeAndMark) → Accepted (g .shape) → 64 < length (g .mark) → Tells findMark g tt (tell 13 0 0)
+  pub thirteen : (g : ShapeAndMark) → Accepted (g .shape) → 64 < length (g .mark) → CallTells findMark g tt (tell 13 0 0)
   pub thirteen-only : (xs mark : List ℕ) (q : Refusal) → FindMark xs mark (Sought.Refused q) → told q .number ≡ 13 → Accepted xs × (64 < length mark)

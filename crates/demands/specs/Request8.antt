@@ -14,11 +14,11 @@ use Rattle.shapes.specs.Shape.{Fits, blockSize, blockCount}
 use Rattle.shapes.specs.Lent.{shapeOf, ShapeRefused}
 use Rattle.pairs.specs.Pair.{PairRefused}
 use Rattle.tray_pairs.specs.Judged.{recorded, Judged}
-use Rattle.tray_pairs.specs.Ranges.{pairSize, pairCount, pairAt, range, Inside, lentIn}
+use Rattle.tray_pairs.specs.Ranges.{pairSize, pairCount, pairAt, range, RangeInside, lentIn}
 use Rattle.tray_pairs.specs.declared.Pair.{Pair as TrayPair}
 use Rattle.tray_pairs.specs.declared.Range.{Range}
 use Rattle.trays.specs.Tray.{RightList}
-use Rattle.demands.specs.Call.{Tells, sweep, BlocksAndPairs, sweepTray, BlocksAndPair, judgePair, InsideOf, BothInside, heldBy}
+use Rattle.demands.specs.Call.{CallTells, sweep, BlocksAndPairs, sweepTray, BlocksAndPair, judgePair, InsideOf, BothInside, heldBy}
 
 -- Where each pair has its record: record i of the row is `getD row′ i d`, whatever d is.
 pub record WhereJudged (g : BlocksAndPairs) (row row′ : List AnswerRecord) : Type 0 where
@@ -58,18 +58,18 @@ pub record Request8 : Type 0 where
       → (d : AnswerRecord) → getD row′ i d ≡ getD row₁′ j d
   -- "14 for a range that ends before it starts or reaches past the
   -- whole blocks lent": numbers left over behind them change nothing
-  pub not-inside : (n : ℕ) (r : Range) → (Inside n r → ⊥) ↔ ((r .past < r .first) ⊎ (n < r .past))
+  pub not-inside : (n : ℕ) (r : Range) → (RangeInside n r → ⊥) ↔ ((r .past < r .first) ⊎ (n < r .past))
   pub whole-blocks : (blocks : List ℕ) → blockCount blocks ≡ length (shapeOf blocks)
   pub left-over : (xs zs : List ℕ) (p : TrayPair) {r s : AnswerRecord} → length xs % blockSize ≡ 0 → length zs < blockSize
       → Judged (xs ++ zs) p r → Judged xs p s → r ≡ s
   -- "in the pair's record, first range first, both before 1, with
   -- the range's number as text and place 0", and nowhere else
-  pub fourteen-first : (g : BlocksAndPair) → (InsideOf (g .blocks) (g .pair .x) → ⊥) → Tells judgePair g tt (tell 14 1 0)
-  pub fourteen-second : (g : BlocksAndPair) → InsideOf (g .blocks) (g .pair .x) → (InsideOf (g .blocks) (g .pair .y) → ⊥) → Tells judgePair g tt (tell 14 2 0)
+  pub fourteen-first : (g : BlocksAndPair) → (InsideOf (g .blocks) (g .pair .x) → ⊥) → CallTells judgePair g tt (tell 14 1 0)
+  pub fourteen-second : (g : BlocksAndPair) → InsideOf (g .blocks) (g .pair .x) → (InsideOf (g .blocks) (g .pair .y) → ⊥) → CallTells judgePair g tt (tell 14 2 0)
   pub fourteen-only : (g : BlocksAndPair) (q : Refusal) → judgePair .Promise g tt tt (judgePair .refused q) → told q .number ≡ 14 → BothInside g → ⊥
   -- then the single call's; an empty range is inside, and has no shape
-  pub then-shapes : (g : BlocksAndPair) (t : Told) → BothInside g → PairRefused (heldBy g .x) (heldBy g .y) t → Tells judgePair g tt t
-  pub empty-inside : (n k : ℕ) → k ≤ n → Inside n (range k k)
+  pub then-shapes : (g : BlocksAndPair) (t : Told) → BothInside g → PairRefused (heldBy g .x) (heldBy g .y) t → CallTells judgePair g tt t
+  pub empty-inside : (n k : ℕ) → k ≤ n → RangeInside n (range k k)
   pub empty-refused : (n : ℕ) (blocks : List ℕ) (k : ℕ) → ShapeRefused n (lentIn blocks (range k k)) (tell 1 n 0)
   -- 15 and 5 are "both for the whole call": neither ever stands in a record
   pub never-fifteen : (g : BlocksAndPair) (q : Refusal) → judgePair .Promise g tt tt (judgePair .refused q) → told q .number ≡ 15 → ⊥
@@ -77,6 +77,6 @@ pub record Request8 : Type 0 where
   -- "15 for over 64 pairs or a list that is not whole pairs, then 5 for a
   -- row shorter than the pairs, both for the whole call, place 0": of text 0
   pub wrong-list : (listed : ℕ) → (RightList listed → ⊥) ↔ ((listed % pairSize ≡ 0 → ⊥) ⊎ (64 < listed / pairSize))
-  pub fifteen : (g : BlocksAndPairs) (row : List AnswerRecord) → (RightList (length (g .pairs)) → ⊥) → Tells sweepTray g row (tell 15 0 0)
+  pub fifteen : (g : BlocksAndPairs) (row : List AnswerRecord) → (RightList (length (g .pairs)) → ⊥) → CallTells sweepTray g row (tell 15 0 0)
   pub then-five : (g : BlocksAndPairs) (row : List AnswerRecord) → RightList (length (g .pairs)) → length row < pairCount (g .pairs)
-      → Tells sweepTray g row (tell 5 0 0)
+      → CallTells sweepTray g row (tell 5 0 0)

@@ -22,7 +22,7 @@ use Rattle.pads.proofs.Cut.{Place}
 use Rattle.pads.proofs.Paths.{path-pad, pad-path, slots-nothing, slot-roomy}
 use Rattle.pads.proofs.Tight.{place, equal-none, equal-hull, some-first}
 use Rattle.plain.proofs.Tells.{tells-so}
-use Rattle.equal_reckoning.specs.Equal.{and, at, listed, lastRows, froms, sign, signs, tableOf, cellOf, blockTold, blocksOf, outcome, fromTable, equalHull}
+use Rattle.equal_reckoning.specs.Equal.{and, at, listed, lastRows, froms, sign, signs, tableOf, cellOf, blockTold, blocksTold, outcome, fromTable, equalHull}
 use Rattle.equal_reckoning.proofs.Tests.{tells-and, tells-as, tells-ltb, listed-at}
 use Rattle.equal_reckoning.proofs.Finish.{RowsFrom, last-rows}
 use Rattle.equal_reckoning.proofs.Reach.{RowsTo, first-rows}
@@ -86,7 +86,7 @@ through X Y p = padded (λ x y. PadPath x y (total X) (total Y) 0 0) X Y (path-p
 
 module _ (X Y : List Block) (gx : All Sound X) (gy : All Sound Y) {T : ℕ → ℕ → ℕ} (t : Told (slotAt X) (slotAt Y) (total X) (total Y) T) where
   side : (p : Path (slotAt X) (slotAt Y) (total X) (total Y) 0 0) (i : ℕ) → i < length X
-      → Collected (paddedAt 0 X) (paddedAt 0 Y) (total X) (total Y) (total (take i X)) (getD X i noBlock) (getD (blocksOf T (slotAt Y) (total Y) 0 X) i noBlock)
+      → Collected (paddedAt 0 X) (paddedAt 0 Y) (total X) (total Y) (total (take i X)) (getD X i noBlock) (getD (blocksTold T (slotAt Y) (total Y) 0 X) i noBlock)
   side p i h = subst (Collected (paddedAt 0 X) (paddedAt 0 Y) (total X) (total Y) (total (take i X)) (getD X i noBlock)) (sym (blocks-at T (slotAt Y) (total Y) 0 (total (take i X)) X i h (omega arith)))
       (padded (λ x y. Collected x y (total X) (total Y) (total (take i X)) (getD X i noBlock) (blockTold T (slotAt Y) (total Y) (total (take i X)) (getD X i noBlock))) X Y
       (block-says (bare (λ x y. Place x y (total X) (total Y) (total (take i X)) (getD X i noBlock)) X Y (place 0 X Y gx i h)) (slot-roomy X) (slot-roomy Y) (bounded Y) t
@@ -101,7 +101,7 @@ module _ (X Y : List Block) (gx : All Sound X) (gy : All Sound Y) where
   exact-table t k = go (eqb (cellOf t 0 0) 0) refl
     where
       go : (v : Bool) → eqb (cellOf t 0 0) 0 ≡ v
-          → NarrowsTo (Pairs Same (length X)) (X ++ Y) (outcome v (blocksOf (cellOf t) (slotAt Y) (total Y) 0 X ++ blocksOf (λ i j. cellOf t j i) (slotAt X) (total X) 0 Y))
+          → NarrowsTo (Pairs Same (length X)) (X ++ Y) (outcome v (blocksTold (cellOf t) (slotAt Y) (total Y) 0 X ++ blocksTold (λ i j. cellOf t j i) (slotAt X) (total X) 0 Y))
       go true e = to-none (same-none (λ f _. nothing-but) (equal-none 0 X Y gx gy (λ p.
           let q = pad-path (slot-roomy X) (slot-roomy Y) (bare (λ x y. PadPath x y (total X) (total Y) 0 0) X Y p) in
           let z = eqb-true (cellOf t 0 0) 0 e in
@@ -111,7 +111,7 @@ module _ (X Y : List Block) (gx : All Sound X) (gy : All Sound Y) where
           let z = eqb-false (cellOf t 0 0) 0 e in
           let p = k .live 0 0 (omega arith) (omega arith) .so (tells-so (tells-ltb 0 (cellOf t 0 0)) (omega arith)) in
           to-shapes (same-rule (λ f _. but-nothing) (λ f _. nothing-but)
-          (equal-hull 0 X Y gx gy (blocksOf (cellOf t) (slotAt Y) (total Y) 0 X) (blocksOf (λ i j. cellOf t j i) (slotAt X) (total X) 0 Y) (through X Y p)
+          (equal-hull 0 X Y gx gy (blocksTold (cellOf t) (slotAt Y) (total Y) 0 X) (blocksTold (λ i j. cellOf t j i) (slotAt X) (total X) 0 Y) (through X Y p)
           (blocks-size (cellOf t) (slotAt Y) (total Y) 0 X) (blocks-size (λ i j. cellOf t j i) (slotAt X) (total X) 0 Y)
           (side X Y gx gy k p) (side Y X gy gx (turn-told k) (turn-path p))))
 

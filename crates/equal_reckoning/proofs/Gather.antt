@@ -22,7 +22,7 @@ use Rattle.pads.specs.Collect.{Passes, Ends, empty, filled, Collected}
 use Rattle.pads.proofs.Paths.{path-pad, pad-path, after-on}
 use Rattle.pads.proofs.Cut.{Place}
 use Rattle.plain.proofs.Tells.{tells-so}
-use Rattle.equal_reckoning.specs.Equal.{joins, add, othersAt, othersWithin, hasLength, firstFrom, lastTo, blockTold, blocksOf}
+use Rattle.equal_reckoning.specs.Equal.{joins, add, othersAt, othersWithin, hasLength, firstFrom, lastTo, blockTold, blocksTold}
 use Rattle.equal_reckoning.proofs.Tests.{tells-map, tells-and, tells-eqb, tells-leb, tells-meet, Under, under-to, under-of, tells-some, if-cases}
 
 -- T says of each pair of positions whether one text leads both to their ends, and whether one leads there from both
@@ -181,13 +181,13 @@ module _ {X Y : ℕ → Block} {U W p : ℕ} {b : Block} {T : ℕ → ℕ → �
 -- ---- all blocks
 
 module _ (T : ℕ → ℕ → ℕ) (Y : ℕ → Block) (m : ℕ) where
-  pub blocks-size : (p : ℕ) (s : List Block) → length (blocksOf T Y m p s) ≡ length s
-  unfolding blocksOf
+  pub blocks-size : (p : ℕ) (s : List Block) → length (blocksTold T Y m p s) ≡ length s
+  unfolding blocksTold
   blocks-size p [] = refl
   blocks-size p (b ∷ s) = ap suc (blocks-size (p + b .upper) s)
 
-  pub blocks-at : (p q : ℕ) (s : List Block) (i : ℕ) → i < length s → q ≡ p + total (take i s) → getD (blocksOf T Y m p s) i noBlock ≡ blockTold T Y m q (getD s i noBlock)
-  unfolding blocksOf total
+  pub blocks-at : (p q : ℕ) (s : List Block) (i : ℕ) → i < length s → q ≡ p + total (take i s) → getD (blocksTold T Y m p s) i noBlock ≡ blockTold T Y m q (getD s i noBlock)
+  unfolding blocksTold total
   blocks-at p q [] i h e = absurd (omega arith)
   blocks-at p q (b ∷ s) zero h e = ap (λ (z : ℕ). blockTold T Y m z b) (let z : p ≡ q = omega arith in z)
   blocks-at p q (b ∷ s) (suc i) h e = blocks-at (p + b .upper) q s i (omega arith) (omega arith)

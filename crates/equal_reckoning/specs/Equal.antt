@@ -151,9 +151,9 @@ blockTold T Y m p b = record {
   upper = lastTo (hasLength T Y m p b) (b .upper);
 }
 
-unfoldable pub blocksOf : (ℕ → ℕ → ℕ) → (ℕ → Block) → ℕ → ℕ → List Block → List Block
-blocksOf T Y m p [] = []
-blocksOf T Y m p (b ∷ s) = blockTold T Y m p b ∷ blocksOf T Y m (p + b .upper) s
+unfoldable pub blocksTold : (ℕ → ℕ → ℕ) → (ℕ → Block) → ℕ → ℕ → List Block → List Block
+blocksTold T Y m p [] = []
+blocksTold T Y m p (b ∷ s) = blockTold T Y m p b ∷ blocksTold T Y m (p + b .upper) s
 
 -- ---- both shapes
 
@@ -163,7 +163,7 @@ outcome false s = shapes s
 
 unfoldable pub fromTable : List Block → List Block → List (List ℕ) → Outcome
 fromTable X Y t = outcome (eqb (cellOf t 0 0) 0)
-    (blocksOf (cellOf t) (slotAt Y) (total Y) 0 X ++ blocksOf (λ i j. cellOf t j i) (slotAt X) (total X) 0 Y)
+    (blocksTold (cellOf t) (slotAt Y) (total Y) 0 X ++ blocksTold (λ i j. cellOf t j i) (slotAt X) (total X) 0 Y)
 
 -- The outcome of narrowing the shapes X and Y under equality.
 unfoldable pub equalHull : List Block → List Block → Outcome

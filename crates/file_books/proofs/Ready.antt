@@ -15,7 +15,7 @@ use Rattle.file_lines.specs.Grammar.{InGrammar}
 use Rattle.file_lines.specs.Grammar.InGrammar.{none, more}
 use Rattle.file_lines.specs.Book.{Book, bookParts, sheetParts, bookGrammar}
 use Rattle.files.specs.Departs.{FileAccepted}
-use Rattle.file_sections.specs.Parts.{Front}
+use Rattle.file_sections.specs.Parts.{AtFront}
 use Rattle.rules.specs.Limits.{mostTexts, bookBlocks, mostRules}
 use Rattle.file_books.specs.declared.Sizes.{Sizes}
 use Rattle.file_books.specs.Promise.{sizesOf, BookRead}
@@ -31,10 +31,10 @@ unfolding bookParts sheetParts
 few-parts b (more t (more s (more r none))) = record { texts = t .few; blocks = s .few; rules = r .few }
 
 -- numbers at the front of an output are its first numbers
-front-taken : (xs out out′ : List ℕ) (n : ℕ) → Front xs out out′ → length xs ≡ n → take n out′ ≡ xs
+front-taken : (xs out out′ : List ℕ) (n : ℕ) → AtFront xs out out′ → length xs ≡ n → take n out′ ≡ xs
 front-taken xs out out′ n f e = ap (take n) f ∙ take-at xs (drop (length xs) out) n e
 
-front-room : (xs out out′ : List ℕ) (n : ℕ) → Front xs out out′ → length xs ≡ n → n ≤ length out′
+front-room : (xs out out′ : List ℕ) (n : ℕ) → AtFront xs out out′ → length xs ≡ n → n ≤ length out′
 front-room xs out out′ n f e = let l = ap length f ∙ length-append xs (drop (length xs) out) in omega arith
 
 pub record Ready (file cs bs rs : List ℕ) (z : Sizes) : Type 0 where

@@ -10,7 +10,7 @@ use Rattle.file_lines.specs.declared.Section.{Section}
 use Rattle.file_lines.specs.Grammar.{Part, InGrammar, writing}
 use Rattle.file_lines.specs.Book.{part, section}
 use Rattle.files.specs.Departs.{Departs}
-use Rattle.file_sections.specs.Parts.{Front}
+use Rattle.file_sections.specs.Parts.{AtFront}
 use Rattle.rules.specs.Limits.{mostRules}
 use Rattle.file_books.specs.declared.Last.{Last}
 use Rattle.file_books.specs.declared.Last.the-variants.{Read as last-read, Departs as last-departs}
@@ -28,7 +28,7 @@ pub record LastIs (bytes rs rs′ : List ℕ) (n : ℕ) : Type 0 where
   pub count : length rules ≡ n
   pub fits : InGrammar lastGrammar (lastPart rules)
   pub whole : bytes ≡ writing (lastPart rules)
-  pub stored : Front (numbersOfAll rules) rs rs′
+  pub stored : AtFront (numbersOfAll rules) rs rs′
 
 -- (How many lines stand before the one that departs is bounded so that the line's number fits.)
 abbrev pub LastRead : List ℕ → List ℕ → List ℕ → Last → Type 0

@@ -8,7 +8,7 @@ use Rattle.rules.specs.Rule.{numbersOfAll}
 use Rattle.shapes.specs.Lent.{wordsOf}
 use Rattle.file_lines.specs.Book.{Book}
 use Rattle.files.specs.Departs.{FileAccepted, FileRefused}
-use Rattle.file_sections.specs.Parts.{Front}
+use Rattle.file_sections.specs.Parts.{AtFront}
 use Rattle.file_books.specs.declared.Sizes.{Sizes}
 use Rattle.file_books.specs.declared.Read.{Read}
 use Rattle.file_books.specs.declared.Read.the-variants.{Book as is-book, Refused}
@@ -22,9 +22,9 @@ pub record BookRead (file cs bs rs cs′ bs′ rs′ : List ℕ) (z : Sizes) : T
   pub book : Book
   pub accepted : FileAccepted file book
   pub sizes : z ≡ sizesOf book
-  pub counts : Front (book .sheet .counts) cs cs′
-  pub blocks : Front (wordsOf (book .sheet .blocks)) bs bs′
-  pub rules : Front (numbersOfAll (book .rules)) rs rs′
+  pub counts : AtFront (book .sheet .counts) cs cs′
+  pub blocks : AtFront (wordsOf (book .sheet .blocks)) bs bs′
+  pub rules : AtFront (numbersOfAll (book .rules)) rs rs′
 
 -- After a refusal the outputs hold anything: they are the caller's own space for the book.
 abbrev pub ReadPromise : List ℕ → List ℕ → List ℕ → List ℕ → List ℕ → List ℕ → List ℕ → Read → Type 0

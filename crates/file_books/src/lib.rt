@@ -7,7 +7,7 @@ use file_sheets::SheetAt;
 ghost use Prim.Native.Nat.{_≤_};
 ghost use lib.ListN.{length};
 ghost use Rattle.file_lines.specs.declared.Heading.the-variants.{Blocks as blocks-heading, Rules as rules-heading};
-ghost use Rattle.file_lines.specs.Book.{section, roomOf};
+ghost use Rattle.file_lines.specs.Book.{section, sectionRoom};
 ghost use Rattle.rules.specs.Limits.{mostTexts, bookBlocks, mostRules};
 ghost use Rattle.file_books.specs.Last.{LastRead};
 ghost use Rattle.file_books.specs.Promise.{ReadPromise};
@@ -32,7 +32,7 @@ pub enum Last {
 
 // The rules, and nothing after them: anything is a further line.
 fn read_last(bytes: &[u8], rules: &mut [u64]) -> Last
-    requires { ⌜ roomOf (section rules-heading mostRules) ≤ length (now rules) ⌝ }
+    requires { ⌜ sectionRoom (section rules-heading mostRules) ≤ length (now rules) ⌝ }
     ensures { λ r. ⌜ LastRead (now (bytes .entry)) (now (rules .entry)) (now (rules .exit)) r ⌝ }
 {
     let last = Section {
@@ -53,8 +53,8 @@ fn read_last(bytes: &[u8], rules: &mut [u64]) -> Last
 // Reads a book file into numbers: its block counts, and the numbers of its blocks and of its rules.
 pub fn read_book(file: &[u8], counts: &mut [u64], blocks: &mut [u64], rules: &mut [u64]) -> Read
     requires { ⌜ mostTexts ≤ length (now counts) ⌝ }
-    requires { ⌜ roomOf (section blocks-heading bookBlocks) ≤ length (now blocks) ⌝ }
-    requires { ⌜ roomOf (section rules-heading mostRules) ≤ length (now rules) ⌝ }
+    requires { ⌜ sectionRoom (section blocks-heading bookBlocks) ≤ length (now blocks) ⌝ }
+    requires { ⌜ sectionRoom (section rules-heading mostRules) ≤ length (now rules) ⌝ }
     ensures { λ r. ⌜ ReadPromise (now (file .entry)) (now (counts .entry)) (now (blocks .entry)) (now (rules .entry)) (now (counts .exit)) (now (blocks .exit)) (now (rules .exit)) r ⌝ }
 {
     if file_lines::FILE_LIMIT < file.len() {

@@ -38,8 +38,8 @@ bookParts b = sheetParts (b .sheet) ++ part Rules (b .rules) ∷ []
 abbrev pub section : Heading → ℕ → Section
 section h n = record { heading = h; most = n }
 
-abbrev pub roomOf : Section → ℕ
-roomOf s = s .most * sizeOf (s .heading)
+abbrev pub sectionRoom : Section → ℕ
+sectionRoom s = s .most * sizeOf (s .heading)
 
 -- The sections of a sheet of so many texts at most, and of a book, in their order. Texts over 8, blocks over 256 or
 -- rules over 16 depart.

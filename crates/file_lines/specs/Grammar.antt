@@ -6,9 +6,9 @@ use lib.ListN.{length}
 use Rattle.plain.specs.All.{All}
 use Rattle.bases.specs.Base.{codes}
 use Rattle.rules.specs.declared.Rule.{Rule}
-use Rattle.rules.specs.Rule.{ruleSize, numbersOf as ruleNumbers}
+use Rattle.rules.specs.Rule.{ruleSize, ruleNumbers}
 use Rattle.shapes.specs.Shape.{Block, blockSize}
-use Rattle.shapes.specs.Lent.{numbersOf as blockNumbers}
+use Rattle.shapes.specs.Lent.{blockNumbers}
 use Rattle.file_numerals.specs.Digits.{digits, decimal}
 use Rattle.file_lines.specs.declared.Heading.{Heading}
 use Rattle.file_lines.specs.declared.Heading.the-variants.{Texts, Blocks, Rules}

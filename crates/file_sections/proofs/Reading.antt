@@ -18,7 +18,7 @@ use Rattle.file_lines.proofs.Joined.{joined-append, map-more}
 use Rattle.files.specs.Departs.{Departs}
 use Rattle.files.proofs.Items.{item-size, item-some}
 use Rattle.files.proofs.Departs.{item-departs}
-use Rattle.file_sections.specs.Parts.{Front, numbersIn, LineTaken, LinesAre, LinesStop, SectionIs}
+use Rattle.file_sections.specs.Parts.{AtFront, itemsNumbers, LineTaken, LinesAre, LinesStop, SectionIs}
 use Rattle.file_sections.proofs.Stored.{front-none, front-item}
 
 -- ---- the numbers of some items
@@ -27,13 +27,13 @@ numbers-sized : (h : Heading) (xs : List (Item h)) → All (λ (x : List ℕ). l
 numbers-sized h [] = none
 numbers-sized h (x ∷ xs) = more (item-size h x) (numbers-sized h xs)
 
-pub numbers-many : (h : Heading) (xs : List (Item h)) → length (numbersIn h xs) ≡ length xs * sizeOf h
+pub numbers-many : (h : Heading) (xs : List (Item h)) → length (itemsNumbers h xs) ≡ length xs * sizeOf h
 numbers-many h xs = join-length (sizeOf h) (numbers-sized h xs) ∙ ap (λ (n : ℕ). n * sizeOf h) (length-map xs (numbersOf h))
 
-numbers-more : (h : Heading) (xs : List (Item h)) (x : Item h) → numbersIn h (xs ++ x ∷ []) ≡ numbersIn h xs ++ numbersOf h x
+numbers-more : (h : Heading) (xs : List (Item h)) (x : Item h) → itemsNumbers h (xs ++ x ∷ []) ≡ itemsNumbers h xs ++ numbersOf h x
 unfolding joinItems
 numbers-more h xs x =
-    ap joinItems (map-more (numbersOf h) xs x) ∙ join-append (map (numbersOf h) xs) (numbersOf h x ∷ []) ∙ ap (λ (l : List ℕ). numbersIn h xs ++ l) (append-nothing (numbersOf h x))
+    ap joinItems (map-more (numbersOf h) xs x) ∙ join-append (map (numbersOf h) xs) (numbersOf h x ∷ []) ∙ ap (λ (l : List ℕ). itemsNumbers h xs ++ l) (append-nothing (numbersOf h x))
   where
     append-nothing : (l : List ℕ) → l ++ [] ≡ l
     append-nothing [] = refl
@@ -63,8 +63,8 @@ lines-more h bytes out₀ out new i m k p room q = record {
   within = let w = p .within in let g = q .line .within in let l = length-drop m bytes in omega arith;
   split = p .split ∙ ap (λ (t : List ℕ). joined (map (lineOf h) (p .items)) ++ t) (q .line .split ∙ ap (λ (t : List ℕ). lineOf h (q .item) ++ 10 ∷ t) (drop-drop k m bytes))
       ∙ sym (joined-more (map (lineOf h) (p .items)) (lineOf h (q .item)) (drop (m + k) bytes)) ∙ ap (λ (ls : List (List ℕ)). joined ls ++ drop (m + k) bytes) (sym (map-more (lineOf h) (p .items) (q .item)));
-  stored = subst (λ (l : List ℕ). Front l out₀ new) (sym (numbers-more h (p .items) (q .item)))
-      (front-item (sizeOf h) i (numbersIn h (p .items)) (numbersOf h (q .item)) out₀ out new (item-some h) (item-size h (q .item))
+  stored = subst (λ (l : List ℕ). AtFront l out₀ new) (sym (numbers-more h (p .items) (q .item)))
+      (front-item (sizeOf h) i (itemsNumbers h (p .items)) (numbersOf h (q .item)) out₀ out new (item-some h) (item-size h (q .item))
       (numbers-many h (p .items) ∙ ap (λ (n : ℕ). n * sizeOf h) (p .count)) (p .stored) room (q .stored));
 }
 

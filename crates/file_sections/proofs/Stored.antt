@@ -14,9 +14,9 @@ use Rattle.plain.specs.Items.{numbersAt, PutItem}
 use Rattle.plain.proofs.Items.{numbers-length, put-item}
 use Rattle.bases.specs.Base.{Word}
 use Rattle.shapes.specs.Shape.{Block, blockSize}
-use Rattle.shapes.specs.Lent.{Put, numbersOf}
+use Rattle.shapes.specs.Lent.{Put, blockNumbers}
 use Rattle.shapes.proofs.Numbers.{numbers-block}
-use Rattle.file_sections.specs.Parts.{Front}
+use Rattle.file_sections.specs.Parts.{AtFront}
 
 -- ---- one item set
 
@@ -29,10 +29,10 @@ all-words : (k : ℕ) (xs : List ℕ) (p : ℕ) → ((q : ℕ) → getD xs q 0 <
 all-words zero xs p fits = none
 all-words (suc k) xs p fits = more (fits p) (all-words k xs (suc p) fits)
 
-pub put-block : {w : List ℕ} {i : ℕ} {b : Block} {w′ : List ℕ} → Put w i b w′ → ((q : ℕ) → getD w′ q 0 < 2 ^ 64) → PutItem blockSize w i (numbersOf b) w′
+pub put-block : {w : List ℕ} {i : ℕ} {b : Block} {w′ : List ℕ} → Put w i b w′ → ((q : ℕ) → getD w′ q 0 < 2 ^ 64) → PutItem blockSize w i (blockNumbers b) w′
 put-block {i = i} {w′ = w′} p fits = record {
   long = p .long;
-  here = sym (numbers-block (all-words blockSize w′ (i * blockSize) fits) (numbers-length blockSize w′ (i * blockSize))) ∙ ap numbersOf (p .here);
+  here = sym (numbers-block (all-words blockSize w′ (i * blockSize) fits) (numbers-length blockSize w′ (i * blockSize))) ∙ ap blockNumbers (p .here);
   kept = p .kept;
 }
 
@@ -53,13 +53,13 @@ put-one k {w} {i} {x} {u} {v} pos p q = ext-getD 0 u v (p .long ∙ sym (q .long
 
 -- ---- numbers at the front of an output
 
-pub front-none : (out : List ℕ) → Front [] out out
+pub front-none : (out : List ℕ) → AtFront [] out out
 front-none [] = refl
 front-none (x ∷ out) = refl
 
 -- those of one item more
-pub front-item : (k i : ℕ) (J x out₀ out new : List ℕ) → 0 < k → length x ≡ k → length J ≡ i * k → Front J out₀ out → i * k + k ≤ length out → PutItem k out i x new
-    → Front (J ++ x) out₀ new
+pub front-item : (k i : ℕ) (J x out₀ out new : List ℕ) → 0 < k → length x ≡ k → length J ≡ i * k → AtFront J out₀ out → i * k + k ≤ length out → PutItem k out i x new
+    → AtFront (J ++ x) out₀ new
 front-item k i J x out₀ out new pos ex eJ f room p =
     new-is ∙ sets-eq x out at (omega arith)
     ∙ (λ j. (front j ++ x) ++ (sym (drop-drop (length x) at out) ∙ ap (drop (length x)) back ∙ drop-drop (length x) (length J) out₀ ∙ ap (λ (n : ℕ). drop n out₀) (sym (length-append J x))) j)

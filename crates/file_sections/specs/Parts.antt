@@ -23,12 +23,12 @@ use Rattle.file_sections.specs.declared.Items.{Items}
 use Rattle.file_sections.specs.declared.Items.the-variants.{Read as items-read, Departs as items-depart}
 
 -- The numbers xs stand at the front of an output, and the rest of it stays.
-abbrev pub Front : List ℕ → List ℕ → List ℕ → Type 0
-Front xs out out′ = out′ ≡ xs ++ drop (length xs) out
+abbrev pub AtFront : List ℕ → List ℕ → List ℕ → Type 0
+AtFront xs out out′ = out′ ≡ xs ++ drop (length xs) out
 
 -- The numbers of some items.
-abbrev pub numbersIn : (h : Heading) → List (Item h) → List ℕ
-numbersIn h xs = joinItems (map (numbersOf h) xs)
+abbrev pub itemsNumbers : (h : Heading) → List (Item h) → List ℕ
+itemsNumbers h xs = joinItems (map (numbersOf h) xs)
 
 -- a section's count on the first line
 abbrev pub HeadAt : Section → List ℕ → NumberAt → Type 0
@@ -62,7 +62,7 @@ pub record LinesAre (h : Heading) (bytes out out′ : List ℕ) (n m : ℕ) : Ty
   pub right : All (RightItem h) items
   pub within : m ≤ length bytes
   pub split : bytes ≡ joined (map (lineOf h) items) ++ drop m bytes
-  pub stored : Front (numbersIn h items) out out′
+  pub stored : AtFront (itemsNumbers h items) out out′
 
 -- only the first i lines are items
 pub record LinesStop (h : Heading) (bytes : List ℕ) (i : ℕ) : Type 0 where
@@ -84,7 +84,7 @@ pub record SectionIs (s : Section) (bytes out out′ : List ℕ) (n m : ℕ) : T
   pub fits : InSection s (part (s .heading) items)
   pub within : m ≤ length bytes
   pub split : bytes ≡ joined (partLines (s .heading) items) ++ drop m bytes
-  pub stored : Front (numbersIn (s .heading) items) out out′
+  pub stored : AtFront (itemsNumbers (s .heading) items) out out′
 
 -- Or the line after i lines departs, whatever sections follow. (i is bounded so that the line's number fits.)
 abbrev pub SectionRead : Section → List ℕ → List ℕ → List ℕ → Items → Type 0

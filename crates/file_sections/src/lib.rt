@@ -9,7 +9,7 @@ use file_numerals::Number;
 ghost use Prim.Native.Nat.{_+_, _*_, _≤_, _<_};
 ghost use lib.ListN.{length};
 ghost use Rattle.file_lines.specs.Grammar.{wordOf, sizeOf};
-ghost use Rattle.file_lines.specs.Book.{roomOf};
+ghost use Rattle.file_lines.specs.Book.{sectionRoom};
 ghost use Rattle.file_lines.specs.Lines.{HeadRead};
 ghost use Rattle.file_lines.specs.declared.Heading.the-variants.{Texts as texts, Blocks as blocks, Rules as rules};
 ghost use Rattle.file_sections.specs.Parts.{HeadAt, LineRead, LineHere, LinesRead, SectionRead};
@@ -151,7 +151,7 @@ fn read_lines(heading: Heading, bytes: &[u8], n: usize, out: &mut [u64]) -> Line
 // A whole section, its items read into the numbers that they are.
 pub fn read_section(section: Section, bytes: &[u8], out: &mut [u64]) -> Items
     requires { ⌜ section .most ≤ 65535 ⌝ }
-    requires { ⌜ roomOf section ≤ length (now out) ⌝ }
+    requires { ⌜ sectionRoom section ≤ length (now out) ⌝ }
     ensures { λ r. ⌜ SectionRead section (now (bytes .entry)) (now (out .entry)) (now (out .exit)) r ⌝ }
 {
     match head_at(section, bytes) {

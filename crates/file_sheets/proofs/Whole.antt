@@ -15,12 +15,12 @@ use Rattle.file_lines.specs.Book.{Sheet, part, section, sheetParts, sheetGramma
 use Rattle.file_lines.proofs.Joined.{joined-append}
 use Rattle.files.specs.Departs.{Departs}
 use Rattle.files.proofs.Departs.{part-length, after-part}
-use Rattle.file_sections.specs.Parts.{Front, numbersIn, SectionIs}
+use Rattle.file_sections.specs.Parts.{AtFront, itemsNumbers, SectionIs}
 use Rattle.rules.specs.Limits.{bookBlocks}
 use Rattle.file_sheets.specs.Sheet.{SheetIs}
 
 -- the numbers of counts are the counts
-counts-are : (xs : List ℕ) → numbersIn Texts xs ≡ xs
+counts-are : (xs : List ℕ) → itemsNumbers Texts xs ≡ xs
 unfolding joinItems
 counts-are [] = refl
 counts-are (x ∷ xs) = ap (λ (l : List ℕ). x ∷ l) (counts-are xs)
@@ -35,7 +35,7 @@ module _ (texts : ℕ) (bytes cs cs′ : List ℕ) (n m : ℕ) (t : SectionIs (s
     split = t .split ∙ ap (λ (r : List ℕ). joined first ++ r) (s .split ∙ ap (λ (r : List ℕ). joined second ++ r) (drop-drop k m bytes))
         ∙ sym (append-assoc (joined first) (joined second) (drop (m + k) bytes))
         ∙ ap (λ (r : List ℕ). r ++ drop (m + k) bytes) (sym (joined-append first second) ∙ ap (λ (l : List (List ℕ)). joined (first ++ l)) (sym (append-nil second)));
-    counts = subst (λ (l : List ℕ). Front l cs cs′) (counts-are (t .items)) (t .stored);
+    counts = subst (λ (l : List ℕ). AtFront l cs cs′) (counts-are (t .items)) (t .stored);
     blocks = s .stored;
     texts-many = t .count;
     blocks-many = s .count;

@@ -8,7 +8,7 @@ use Rattle.file_lines.specs.declared.Section.{Section}
 use Rattle.file_lines.specs.Grammar.{writing, InGrammar}
 use Rattle.file_lines.specs.Book.{Sheet, sheetParts, sheetGrammar}
 use Rattle.files.specs.Departs.{Departs}
-use Rattle.file_sections.specs.Parts.{Front}
+use Rattle.file_sections.specs.Parts.{AtFront}
 use Rattle.rules.specs.Limits.{bookBlocks}
 use Rattle.file_sheets.specs.declared.SheetAt.{SheetAt}
 use Rattle.file_sheets.specs.declared.SheetAt.the-variants.{Is as sheet-is, Departs as sheet-departs}
@@ -19,8 +19,8 @@ pub record SheetIs (texts : ℕ) (bytes cs bs cs′ bs′ : List ℕ) (n b m : �
   pub fits : InGrammar (sheetGrammar texts) (sheetParts sheet)
   pub within : m ≤ length bytes
   pub split : bytes ≡ writing (sheetParts sheet) ++ drop m bytes
-  pub counts : Front (sheet .counts) cs cs′
-  pub blocks : Front (wordsOf (sheet .blocks)) bs bs′
+  pub counts : AtFront (sheet .counts) cs cs′
+  pub blocks : AtFront (wordsOf (sheet .blocks)) bs bs′
   pub texts-many : length (sheet .counts) ≡ n
   pub blocks-many : length (sheet .blocks) ≡ b
 

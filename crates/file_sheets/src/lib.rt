@@ -5,7 +5,7 @@ use file_sections::Items;
 ghost use Prim.Native.Nat.{_≤_};
 ghost use lib.ListN.{length};
 ghost use Rattle.file_lines.specs.declared.Heading.the-variants.{Blocks as blocks-heading};
-ghost use Rattle.file_lines.specs.Book.{section, roomOf};
+ghost use Rattle.file_lines.specs.Book.{section, sectionRoom};
 ghost use Rattle.rules.specs.Limits.{bookBlocks};
 ghost use Rattle.file_sheets.specs.Sheet.{SheetRead};
 
@@ -20,7 +20,7 @@ pub enum SheetAt {
 pub fn read_sheet(texts: usize, bytes: &[u8], counts: &mut [u64], blocks: &mut [u64]) -> SheetAt
     requires { ⌜ texts ≤ 65535 ⌝ }
     requires { ⌜ texts ≤ length (now counts) ⌝ }
-    requires { ⌜ roomOf (section blocks-heading bookBlocks) ≤ length (now blocks) ⌝ }
+    requires { ⌜ sectionRoom (section blocks-heading bookBlocks) ≤ length (now blocks) ⌝ }
     ensures { λ r. ⌜ SheetRead texts (now (bytes .entry)) (now (counts .entry)) (now (blocks .entry)) (now (counts .exit)) (now (blocks .exit)) r ⌝ }
 {
     let first = Section {

@@ -9,13 +9,13 @@ use lib.ListN.{length, getD, take}
 use lib.Seq.{take-suc, length-take-le}
 use Rattle.sets.specs.Set.{Exactly}
 use Rattle.sets.proofs.Exact.{exactly-as, one-exactly}
-use Rattle.find_texts.specs.Match.{Ends}
+use Rattle.find_texts.specs.Match.{EndsWith}
 use Rattle.find_texts.proofs.State.{ends-none, ends-length, ends-snoc, snoc-ends}
 use Rattle.find_borders.specs.Borders.{SameAt, Border, UpOne}
 
 module _ (mark : List ℕ) where
   -- what a part of the mark ends with is no longer than the part
-  pub border-of : (q r : ℕ) → q ≤ length mark → r ≤ length mark → Ends (take r mark) (take q mark) → Border mark q r
+  pub border-of : (q r : ℕ) → q ≤ length mark → r ≤ length mark → EndsWith (take r mark) (take q mark) → Border mark q r
   border-of q r l g e =
       let n = ends-length e in
       let a = length-take-le q mark l in
@@ -26,7 +26,7 @@ module _ (mark : List ℕ) where
 
   pub first-borders : Exactly 1 (Border mark 0)
   first-borders = exactly-as
-      (λ e h. record { few = omega arith; ends = subst (λ (r : ℕ). Ends (take r mark) []) (sym h) (ends-none []) })
+      (λ e h. record { few = omega arith; ends = subst (λ (r : ℕ). EndsWith (take r mark) []) (sym h) (ends-none []) })
       (λ e h. let l = h .few in omega arith)
       (one-exactly 0)
 
@@ -35,14 +35,14 @@ module _ (mark : List ℕ) where
     up-border r b e =
         let l = b .few in
         let x = ends-snoc mark (take q mark) (getD mark q 0) r (omega arith) (b .ends) e in
-        let y : Ends (take (suc r) mark) (take (suc q) mark) = subst (Ends (take (suc r) mark)) (sym (take-suc mark q 0 small)) x in
+        let y : EndsWith (take (suc r) mark) (take (suc q) mark) = subst (EndsWith (take (suc r) mark)) (sym (take-suc mark q 0 small)) x in
         record { few = omega arith; ends = rw (add-one r, add-one q) y }
 
     down-border : (r : ℕ) → Border mark (q + 1) (r + 1) → Border mark q r × (getD mark r 0 ≡ getD mark q 0)
     down-border r b =
         let l = b .few in
-        let y : Ends (take (suc r) mark) (take (suc q) mark) = rw (add-one r, add-one q) at (b .ends) in
-        let p = snoc-ends mark (take q mark) (getD mark q 0) r (omega arith) (subst (Ends (take (suc r) mark)) (take-suc mark q 0 small) y) in
+        let y : EndsWith (take (suc r) mark) (take (suc q) mark) = rw (add-one r, add-one q) at (b .ends) in
+        let p = snoc-ends mark (take q mark) (getD mark q 0) r (omega arith) (subst (EndsWith (take (suc r) mark)) (take-suc mark q 0 small) y) in
         (record { few = omega arith; ends = p .0 }, p .1)
 
     pub next-borders : {w s x : ℕ} → q + 1 < 64 → Exactly w (Border mark q) → Exactly s (SameAt mark (getD mark q 0)) → Exactly x (UpOne w s) → Exactly x (Border mark (q + 1))

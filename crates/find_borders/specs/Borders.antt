@@ -7,7 +7,7 @@ use Prim.Native.Nat.{ℕ, _+_, _≤_, _<_}
 use lib.ListN.{length, getD, take}
 use Rattle.bases.specs.Base.{Holds}
 use Rattle.sets.specs.Set.{Exactly}
-use Rattle.find_texts.specs.Match.{Ends}
+use Rattle.find_texts.specs.Match.{EndsWith}
 
 -- A mark that is searched for by states: of 1 to 64 characters.
 pub record ShortMark (mark : List ℕ) : Type 0 where
@@ -25,7 +25,7 @@ Sames mark n words = (r : ℕ) → r < n → Exactly (getD words r 0) (SameAt ma
 -- The first q characters of the mark end with its first r.
 pub record Border (mark : List ℕ) (q r : ℕ) : Type 0 where
   pub few : r ≤ q
-  pub ends : Ends (take r mark) (take q mark)
+  pub ends : EndsWith (take r mark) (take q mark)
 
 -- Of the first n states, each word has its borders.
 abbrev pub Borders : List ℕ → ℕ → List ℕ → Type 0

@@ -13,7 +13,7 @@ ghost use Rattle.shapes.specs.Shape.{Block as Meant};
 ghost use Rattle.shapes.specs.Lent.{meant, shapeOf, Accepted};
 ghost use Rattle.find_texts.specs.Reading.{Begun};
 ghost use Rattle.find_borders.specs.Borders.{ShortMark};
-ghost use Rattle.find_ways.specs.Ways.{Falls, Seen, WaysOf};
+ghost use Rattle.find_ways.specs.Ways.{FallWords, ContinuedRows, WaysOf};
 ghost use Rattle.find_rows.specs.Says.{HitsSay, LiveIn};
 ghost use Rattle.find_reads.specs.Reads.{Heard, LeftIn};
 
@@ -33,7 +33,7 @@ fn read_block(
     before: Search,
 ) -> Search
     requires { ⌜ ShortMark (now mark) × Exactly (before .live) (LiveIn (now mark) (now rows)) × Sound (meant b) ⌝ }
-    requires { ⌜ Falls (now mark) (length (now mark)) (now falls) × WaysOf (now mark) ways × (setOf (ways .base) ≡ setOf (b .base)) ⌝ }
+    requires { ⌜ FallWords (now mark) (length (now mark)) (now falls) × WaysOf (now mark) ways × (setOf (ways .base) ≡ setOf (b .base)) ⌝ }
     ensures { λ r. ⌜ Exactly (r .live) (LiveIn (now (mark .entry)) (now (rows .exit))) ⌝ }
     ensures { λ r. ⌜ ((s : List Meant) → total s + b .upper ≤ 250 → Heard (now (mark .entry)) s (now (rows .entry)) (setOf (before .hits))
         → Heard (now (mark .entry)) (s ++ (meant b ∷ [])) (now (rows .exit)) (setOf (r .hits))) ⌝ }
@@ -67,7 +67,7 @@ fn read_on(
     before: Search,
 ) -> Search
     requires { ⌜ ShortMark (now mark) × Exactly (before .live) (LiveIn (now mark) (now rows)) × Sound (meant b) ⌝ }
-    requires { ⌜ Falls (now mark) (length (now mark)) (now falls) × Seen (now mark) (length (now mark)) (now seen) ⌝ }
+    requires { ⌜ FallWords (now mark) (length (now mark)) (now falls) × ContinuedRows (now mark) (length (now mark)) (now seen) ⌝ }
     ensures { λ r. ⌜ Exactly (r .live) (LiveIn (now (mark .entry)) (now (rows .exit))) ⌝ }
     ensures { λ r. ⌜ ((s : List Meant) → total s + b .upper ≤ 250 → Heard (now (mark .entry)) s (now (rows .entry)) (setOf (before .hits))
         → Heard (now (mark .entry)) (s ++ (meant b ∷ [])) (now (rows .exit)) (setOf (r .hits))) ⌝ }

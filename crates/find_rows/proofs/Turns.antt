@@ -17,7 +17,7 @@ use Rattle.rows.specs.Row.{rowIn, PutRow}
 use Rattle.rows.proofs.Rows.{rows-more}
 use Rattle.find_borders.proofs.Collect.{collect-none, collect-more}
 use Rattle.find_ways.proofs.Leads.{goes-enters, enters-from}
-use Rattle.find_texts.specs.Match.{Goes}
+use Rattle.find_texts.specs.Match.{StateGoes}
 use Rattle.find_rows.specs.Says.{SomeIn, LiveIn, Arrived, MovedTo, Moved, Underway}
 
 -- the rows below t are moved, those from t on are as they were; `next` has the live ones among the first
@@ -80,7 +80,7 @@ module _ (mark : List ℕ) (base : ℕ) (keep : Bool) (was : List ℕ) where
         let q = t .state in
         let z = past r q l m (alive .has q (t .small, record { number = t .length-before; held = t .from })) in
         let back : r ≡ r - 1 + 1 = omega arith in
-        let f = goes-enters mark q (t .small) {r = r - 1} (omega arith) (subst (Goes mark base q) back (t .goes)) .1 in
+        let f = goes-enters mark q (t .small) {r = r - 1} (omega arith) (subst (StateGoes mark base q) back (t .goes)) .1 in
         let le = enters-from mark (r - 1) q f in
         omega arith
 

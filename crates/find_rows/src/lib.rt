@@ -14,7 +14,7 @@ ghost use Rattle.sets.specs.Set.{setOf, Exactly};
 ghost use Rattle.rows.specs.Row.{rowIn};
 ghost use Rattle.fit_rows.specs.Rows.{Picked};
 ghost use Rattle.find_borders.specs.Borders.{ShortMark};
-ghost use Rattle.find_ways.specs.Ways.{Falls, WaysOf};
+ghost use Rattle.find_ways.specs.Ways.{FallWords, WaysOf};
 ghost use Rattle.find_rows.specs.Says.{LiveIn, Arrived, Moved, Underway};
 
 // The numbers of the rows that w has.
@@ -43,7 +43,7 @@ pub fn arrive(
     t: usize,
 ) -> Set
     requires { ⌜ ShortMark (now mark) × (t ≤ length (now mark)) ⌝ }
-    requires { ⌜ Falls (now mark) (length (now mark)) (now falls) × WaysOf (now mark) ways ⌝ }
+    requires { ⌜ FallWords (now mark) (length (now mark)) (now falls) × WaysOf (now mark) ways ⌝ }
     ensures { λ r. ⌜ ((was : List ℕ) → Underway was (now (rows .entry)) t (setOf last) → Exactly live (LiveIn (now (mark .entry)) was)
         → Exactly (setOf r) (Arrived (now (mark .entry)) (setOf (ways .base)) was t)) ⌝ }
 {
@@ -90,7 +90,7 @@ pub fn step(
     keep: bool,
 ) -> u64
     requires { ⌜ ShortMark (now mark) × Exactly live (LiveIn (now mark) (now rows)) ⌝ }
-    requires { ⌜ Falls (now mark) (length (now mark)) (now falls) × WaysOf (now mark) ways ⌝ }
+    requires { ⌜ FallWords (now mark) (length (now mark)) (now falls) × WaysOf (now mark) ways ⌝ }
     ensures { λ _. ⌜ Moved (now (mark .entry)) (setOf (ways .base)) keep (now (rows .entry)) (now (rows .exit)) ⌝ }
     ensures { λ r. ⌜ Exactly r (LiveIn (now (mark .entry)) (now (rows .exit))) ⌝ }
 {

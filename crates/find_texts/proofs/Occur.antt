@@ -7,7 +7,7 @@ use native.Mathlib.Omega.{arith}
 use lib.ListN.{length, length-append}
 use Rattle.plain.proofs.Plain.{lt-or-le}
 use Rattle.find_texts.specs.Occurs.{OccursAt, Lacks, FirstAt}
-use Rattle.find_texts.specs.Match.{Ends, Completes}
+use Rattle.find_texts.specs.Match.{EndsWith, Completes}
 use Rattle.find_texts.proofs.Lists.{cut, length-snoc}
 
 -- an occurrence ends within the text, and starts at 1 or later
@@ -35,7 +35,7 @@ occurs-front {mark} {i} t u o l =
 
 -- ---- at the end
 
-pub ends-occurs : {mark t : List ℕ} → Ends mark t → (i : ℕ) × OccursAt mark t i × (i + length mark ≡ length t + 1)
+pub ends-occurs : {mark t : List ℕ} → EndsWith mark t → (i : ℕ) × OccursAt mark t i × (i + length mark ≡ length t + 1)
 ends-occurs {mark} {t} e =
     let n = ap length (e .text) ∙ length-append (e .before) mark in
     (length (e .before) + 1, record { before = e .before; after = []; text = e .text ∙ ap (λ (l : List ℕ). e .before ++ l) (sym (append-nil mark)); index = refl }, omega arith)
@@ -44,7 +44,7 @@ no-rest : (l : List ℕ) → length l ≡ 0 → l ≡ []
 no-rest [] h = refl
 no-rest (x ∷ l) h = absurd (omega arith)
 
-pub occurs-ends : {mark t : List ℕ} {i : ℕ} → OccursAt mark t i → i + length mark ≡ length t + 1 → Ends mark t
+pub occurs-ends : {mark t : List ℕ} {i : ℕ} → OccursAt mark t i → i + length mark ≡ length t + 1 → EndsWith mark t
 occurs-ends {mark} {t} {i} o l =
     let e = ap length (o .text) ∙ length-append (o .before) (mark ++ o .after) in
     let f = length-append mark (o .after) in
@@ -57,11 +57,11 @@ occurs-ends {mark} {t} {i} o l =
 pub lacks-front : {mark : List ℕ} (t u : List ℕ) → Lacks mark (t ++ u) → Lacks mark t
 lacks-front t u h = record { nowhere = λ i o. h .nowhere i (occurs-more u o) }
 
-pub lacks-end : {mark t : List ℕ} → Lacks mark t → Ends mark t → ⊥
+pub lacks-end : {mark t : List ℕ} → Lacks mark t → EndsWith mark t → ⊥
 lacks-end h e = let o = ends-occurs e in h .nowhere (o .0) (o .1)
 
 -- one more character: the mark is lacking still, unless it stands at the end
-pub lacks-snoc : {mark : List ℕ} (t : List ℕ) (c : ℕ) → Lacks mark t → (Ends mark (t ++ (c ∷ [])) → ⊥) → Lacks mark (t ++ (c ∷ []))
+pub lacks-snoc : {mark : List ℕ} (t : List ℕ) (c : ℕ) → Lacks mark t → (EndsWith mark (t ++ (c ∷ [])) → ⊥) → Lacks mark (t ++ (c ∷ []))
 lacks-snoc {mark} t c h n = record {
   nowhere = λ i o.
       let w = occurs-within o .0 in
@@ -73,7 +73,7 @@ lacks-snoc {mark} t c h n = record {
 }
 
 -- and then it is the first
-pub snoc-completes : {mark : List ℕ} (t : List ℕ) (c : ℕ) → Lacks mark t → Ends mark (t ++ (c ∷ [])) → Completes mark (t ++ (c ∷ []))
+pub snoc-completes : {mark : List ℕ} (t : List ℕ) (c : ℕ) → Lacks mark t → EndsWith mark (t ++ (c ∷ [])) → Completes mark (t ++ (c ∷ []))
 snoc-completes {mark} t c h e =
     let o = ends-occurs e in
     let d = o .2 in
@@ -87,7 +87,7 @@ snoc-completes {mark} t c h e =
       last = d;
     }
 
-pub completes-ends : {mark t : List ℕ} → Completes mark t → Ends mark t
+pub completes-ends : {mark t : List ℕ} → Completes mark t → EndsWith mark t
 completes-ends k = occurs-ends (k .first .there) (k .last)
 
 pub completes-lacked : {mark : List ℕ} (t : List ℕ) (c : ℕ) → Completes mark (t ++ (c ∷ [])) → Lacks mark t

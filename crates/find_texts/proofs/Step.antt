@@ -8,7 +8,7 @@ use native.Mathlib.Omega.{arith}
 use lib.ListN.{length}
 use Rattle.plain.proofs.Plain.{lt-or-le}
 use Rattle.find_texts.specs.Occurs.{Lacks}
-use Rattle.find_texts.specs.Match.{Matched, Completes, Then, SomeKept, Struck, Goes, Stepped}
+use Rattle.find_texts.specs.Match.{Matched, Completes, Then, SomeKept, Struck, StateGoes, Stepped}
 use Rattle.find_texts.proofs.Lists.{length-snoc}
 use Rattle.find_texts.proofs.Occur.{lacks-front, lacks-end, lacks-snoc, snoc-completes, completes-ends, completes-lacked}
 use Rattle.find_texts.proofs.State.{step-mark, step-text, state-of, whole-ends, ends-whole}
@@ -40,7 +40,7 @@ module _ (mark : List ℕ) where
           next = sym (x .long) ∙ ap length (t .text) ∙ length-snoc (t .front) (t .char);
         }
 
-    one-more : {q k r : ℕ} → (x : SomeKept mark T q k) → (g : Goes mark base q r) → Then T base (x .text ++ (g .char ∷ []))
+    one-more : {q k r : ℕ} → (x : SomeKept mark T q k) → (g : StateGoes mark base q r) → Then T base (x .text ++ (g .char ∷ []))
     one-more x g = record { front = x .text; char = g .char; in-front = x .is; held = g .held; text = refl }
 
     pub step-kept : {r k : ℕ} → r < length mark → Stepped mark base (SomeKept mark T) r k → SomeKept mark (Then T base) r k

@@ -12,7 +12,7 @@ use Rattle.bases.specs.Base.{Holds, Greatest}
 use Rattle.plain.proofs.Plain.{eq-or-ne}
 use Rattle.sets.specs.Set.{Exactly}
 use Rattle.sets.proofs.Exact.{exactly-as, both-exactly, either-exactly}
-use Rattle.find_texts.specs.Match.{Ends, Matched, Goes}
+use Rattle.find_texts.specs.Match.{EndsWith, Matched, StateGoes}
 use Rattle.find_texts.proofs.Lists.{length-snoc}
 use Rattle.find_texts.proofs.State.{ends-none, ends-self, ends-length, ends-through, ends-nested, ends-snoc, snoc-ends}
 use Rattle.find_borders.specs.Borders.{SameAt, Border}
@@ -31,14 +31,14 @@ module _ (mark : List ℕ) where
         let p = a .so r (h .0) in
         let t = b .so r (h .1) in
         let few = p .few in
-        let long : (k : ℕ) → k ≤ length mark → Ends (take k mark) (take q mark ++ (c ∷ [])) → k ≤ r + 1 = λ k. at x g k in
+        let long : (k : ℕ) → k ≤ length mark → EndsWith (take k mark) (take q mark ++ (c ∷ [])) → k ≤ r + 1 = λ k. at x g k in
         record {
           within = let l = t .0 in omega arith;
           ends = rw add-one (ends-snoc mark (take q mark) c r (t .0) (p .ends) (t .1));
           longest = long;
         }
       where
-        at : Exactly (bitAnd w s) (λ e. Holds w e × Holds s e) → Greatest (bitAnd w s) r → (k : ℕ) → k ≤ length mark → Ends (take k mark) (take q mark ++ (c ∷ [])) → k ≤ r + 1
+        at : Exactly (bitAnd w s) (λ e. Holds w e × Holds s e) → Greatest (bitAnd w s) r → (k : ℕ) → k ≤ length mark → EndsWith (take k mark) (take q mark ++ (c ∷ [])) → k ≤ r + 1
         at x g zero l e = omega arith
         at x g (suc j) l e =
             let y = snoc-ends mark (take q mark) c j (omega arith) e in
@@ -48,7 +48,7 @@ module _ (mark : List ℕ) where
     pub matched-tops : {w s r : ℕ} (c : ℕ) → r < length mark → Exactly w (Border mark q) → Exactly s (SameAt mark c) → Matched mark (take q mark ++ (c ∷ [])) (r + 1) → Greatest (bitAnd w s) r
     matched-tops {w} {s} {r} c l a b m =
         let x = both-exactly w s refl in
-        let e : Ends (take (suc r) mark) (take q mark ++ (c ∷ [])) = rw add-one at (m .ends) in
+        let e : EndsWith (take (suc r) mark) (take q mark ++ (c ∷ [])) = rw add-one at (m .ends) in
         let y = snoc-ends mark (take q mark) c r l e in
         record {
           held = x .has r (a .has r (border-of mark q r (omega arith) (omega arith) (y .0)), b .has r (l, y .1));
@@ -61,17 +61,17 @@ module _ (mark : List ℕ) where
         }
 
     -- a character of the base leads to r + 1: it is the mark's at r
-    pub goes-enters : {base r : ℕ} → r < length mark → Goes mark base q (r + 1) → Holds base (getD mark r 0) × EnterAt mark r q
+    pub goes-enters : {base r : ℕ} → r < length mark → StateGoes mark base q (r + 1) → Holds base (getD mark r 0) × EnterAt mark r q
     goes-enters {base} {r} l g =
-        let e : Ends (take (suc r) mark) (take q mark ++ (g .char ∷ [])) = rw add-one at (g .matched .ends) in
+        let e : EndsWith (take (suc r) mark) (take q mark ++ (g .char ∷ [])) = rw add-one at (g .matched .ends) in
         let y = snoc-ends mark (take q mark) (g .char) r l e in
         (subst (Holds base) (sym (y .1)) (g .held), (small, subst (λ (c : ℕ). Matched mark (take q mark ++ (c ∷ [])) (r + 1)) (sym (y .1)) (g .matched)))
 
-    pub enters-goes : {base : ℕ} (r : ℕ) → Holds base (getD mark r 0) → EnterAt mark r q → Goes mark base q (r + 1)
+    pub enters-goes : {base : ℕ} (r : ℕ) → Holds base (getD mark r 0) → EnterAt mark r q → StateGoes mark base q (r + 1)
     enters-goes {base} r h e = record { char = getD mark r 0; held = h; matched = e .1 }
 
     -- it leads to 0: no border goes on with it
-    pub goes-outside : {base s : ℕ} → Exactly s (Continued mark q) → Goes mark base q 0 → Outside base s
+    pub goes-outside : {base s : ℕ} → Exactly s (Continued mark q) → StateGoes mark base q 0 → Outside base s
     goes-outside {base} {s} a g = record {
       char = g .char;
       held = g .held;
@@ -82,14 +82,14 @@ module _ (mark : List ℕ) where
           omega arith;
     }
 
-    pub outside-goes : {base s : ℕ} → Exactly s (Continued mark q) → Outside base s → Goes mark base q 0
+    pub outside-goes : {base s : ℕ} → Exactly s (Continued mark q) → Outside base s → StateGoes mark base q 0
     outside-goes {base} {s} a o = record {
       char = o .char;
       held = o .held;
       matched = record { within = omega arith; ends = ends-none (take q mark ++ (o .char ∷ [])); longest = at };
     }
       where
-        at : (k : ℕ) → k ≤ length mark → Ends (take k mark) (take q mark ++ (o .char ∷ [])) → k ≤ 0
+        at : (k : ℕ) → k ≤ length mark → EndsWith (take k mark) (take q mark ++ (o .char ∷ [])) → k ≤ 0
         at zero l e = omega arith
         at (suc j) l e =
             let y = snoc-ends mark (take q mark) (o .char) j (omega arith) e in
@@ -105,7 +105,7 @@ module _ (mark : List ℕ) where
         l,
         subst (λ (x : List ℕ). Matched mark x (r + 1)) e (record {
           within = omega arith;
-          ends = subst (λ (k : ℕ). Ends (take k mark) (take (suc r) mark)) (sym (add-one r)) (ends-self (take (suc r) mark));
+          ends = subst (λ (k : ℕ). EndsWith (take k mark) (take (suc r) mark)) (sym (add-one r)) (ends-self (take (suc r) mark));
           longest = λ k g x. let a = ends-length x in let b = length-take-le k mark g in omega arith;
         }),
       )

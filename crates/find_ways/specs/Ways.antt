@@ -6,7 +6,7 @@ use lib.ListN.{length, getD, take}
 use Rattle.bases.specs.Base.{Holds}
 use Rattle.sets.specs.Set.{setOf, Exactly}
 use Rattle.rows.specs.Row.{rowIn}
-use Rattle.find_texts.specs.Match.{Matched, Goes}
+use Rattle.find_texts.specs.Match.{Matched, StateGoes}
 use Rattle.find_borders.specs.Borders.{Border}
 use Rattle.find_ways.specs.declared.Ways.{Ways}
 
@@ -18,8 +18,8 @@ EnterAt mark r q = (q < length mark) × Matched mark (take q mark ++ (getD mark 
 abbrev pub FallAt : List ℕ → ℕ → ℕ → Type 0
 FallAt mark r q = (r < q) × EnterAt mark r q
 
-abbrev pub Falls : List ℕ → ℕ → List ℕ → Type 0
-Falls mark n words = (r : ℕ) → r < n → Exactly (getD words r 0) (FallAt mark r)
+abbrev pub FallWords : List ℕ → ℕ → List ℕ → Type 0
+FallWords mark n words = (r : ℕ) → r < n → Exactly (getD words r 0) (FallAt mark r)
 
 -- r is the greatest number of w below q.
 pub record GreatestBelow (w q r : ℕ) : Type 0 where
@@ -33,8 +33,8 @@ pub record Continued (mark : List ℕ) (q c : ℕ) : Type 0 where
   pub border : Border mark q number
   pub char : getD mark number 0 ≡ c
 
-abbrev pub Seen : List ℕ → ℕ → List ℕ → Type 0
-Seen mark n rows = (q : ℕ) → q < n → Exactly (rowIn rows q) (Continued mark q)
+abbrev pub ContinuedRows : List ℕ → ℕ → List ℕ → Type 0
+ContinuedRows mark n rows = (q : ℕ) → q < n → Exactly (rowIn rows q) (Continued mark q)
 
 -- The base has a character that s has not.
 pub record Outside (base s : ℕ) : Type 0 where
@@ -44,7 +44,7 @@ pub record Outside (base s : ℕ) : Type 0 where
 
 -- The states from which some character of the base leads to 0.
 abbrev pub Resets : List ℕ → ℕ → ℕ → Type 0
-Resets mark base w = Exactly w (λ q. (q < length mark) × Goes mark base q 0)
+Resets mark base w = Exactly w (λ q. (q < length mark) × StateGoes mark base q 0)
 
 -- The numbers of the mark's characters that the base holds.
 abbrev pub Allowed : List ℕ → ℕ → ℕ → Type 0

@@ -9,7 +9,7 @@ ghost use Rattle.bases.specs.Base.{Holds, Greatest};
 ghost use Rattle.plain.specs.Tells.{Tells};
 ghost use Rattle.sets.specs.Set.{setOf, Exactly};
 ghost use Rattle.find_borders.specs.Borders.{ShortMark, SameAt, Sames, Border, Borders};
-ghost use Rattle.find_ways.specs.Ways.{FallAt, Falls, GreatestBelow, Continued, Seen, Outside, Resets, Allowed, WaysOf};
+ghost use Rattle.find_ways.specs.Ways.{FallAt, FallWords, GreatestBelow, Continued, ContinuedRows, Outside, Resets, Allowed, WaysOf};
 
 // The ways that the characters of one base make: the states from which one leads to state 0, and the characters of the
 // mark that are among them.
@@ -46,7 +46,7 @@ fn falls_at(mark: &[u8], borders: &[u64; 64], same: u64, r: usize) -> u64
 fn lay_falls(mark: &[u8], borders: &[u64; 64], words: &mut [u64; 64])
     requires { ⌜ ShortMark (now mark) × (length (now words) ≡ 64) ⌝ }
     requires { ⌜ Borders (now mark) (length (now mark)) (now borders) × Sames (now mark) (length (now mark)) (now words) ⌝ }
-    ensures { λ _. ⌜ Falls (now (mark .entry)) (length (now (mark .entry))) (now (words .exit)) ⌝ }
+    ensures { λ _. ⌜ FallWords (now (mark .entry)) (length (now (mark .entry))) (now (words .exit)) ⌝ }
 {
     let mut r = 0;
     while r < mark.len() {
@@ -67,7 +67,7 @@ fn greatest_below(w: u64, q: usize) -> usize
 // longest shorter start that it ends with.
 fn seen_at(mark: &[u8], border: u64, seen: &[u64; 256], q: usize) -> Set
     requires { ⌜ ShortMark (now mark) × (q < length (now mark)) ⌝ }
-    requires { ⌜ Exactly border (Border (now mark) q) × Seen (now mark) q (now seen) ⌝ }
+    requires { ⌜ Exactly border (Border (now mark) q) × ContinuedRows (now mark) q (now seen) ⌝ }
     ensures { λ s. ⌜ Exactly (setOf s) (Continued (now (mark .entry)) q) ⌝ }
 {
     let own = sets::single(mark[q] as usize);
@@ -81,7 +81,7 @@ fn seen_at(mark: &[u8], border: u64, seen: &[u64; 256], q: usize) -> Set
 fn lay_seen(mark: &[u8], borders: &[u64; 64], seen: &mut [u64; 256])
     requires { ⌜ ShortMark (now mark) ⌝ }
     requires { ⌜ Borders (now mark) (length (now mark)) (now borders) ⌝ }
-    ensures { λ _. ⌜ Seen (now (mark .entry)) (length (now (mark .entry))) (now (seen .exit)) ⌝ }
+    ensures { λ _. ⌜ ContinuedRows (now (mark .entry)) (length (now (mark .entry))) (now (seen .exit)) ⌝ }
 {
     let mut q = 0;
     while q < mark.len() {
@@ -94,8 +94,8 @@ fn lay_seen(mark: &[u8], borders: &[u64; 64], seen: &mut [u64; 256])
 // All ways of a mark that no base has a part in.
 pub fn lay(mark: &[u8], falls: &mut [u64; 64], seen: &mut [u64; 256])
     requires { ⌜ ShortMark (now mark) × (length (now falls) ≡ 64) ⌝ }
-    ensures { λ _. ⌜ Falls (now (mark .entry)) (length (now (mark .entry))) (now (falls .exit)) ⌝ }
-    ensures { λ _. ⌜ Seen (now (mark .entry)) (length (now (mark .entry))) (now (seen .exit)) ⌝ }
+    ensures { λ _. ⌜ FallWords (now (mark .entry)) (length (now (mark .entry))) (now (falls .exit)) ⌝ }
+    ensures { λ _. ⌜ ContinuedRows (now (mark .entry)) (length (now (mark .entry))) (now (seen .exit)) ⌝ }
 {
     let mut borders = [0u64; 64];
     find_borders::lay_sames(mark, falls);
@@ -114,7 +114,7 @@ fn leaves(base: Set, s: Set) -> bool
 // The states from which some character of the base leads to state 0.
 fn resets(mark: &[u8], seen: &[u64; 256], base: Set) -> u64
     requires { ⌜ ShortMark (now mark) ⌝ }
-    requires { ⌜ Seen (now mark) (length (now mark)) (now seen) ⌝ }
+    requires { ⌜ ContinuedRows (now mark) (length (now mark)) (now seen) ⌝ }
     ensures { λ w. ⌜ Resets (now (mark .entry)) (setOf base) w ⌝ }
 {
     let mut w = 0;
@@ -143,7 +143,7 @@ fn allowed(mark: &[u8], base: Set) -> u64
 // The ways that a base makes.
 pub fn of_base(mark: &[u8], seen: &[u64; 256], base: Set) -> Ways
     requires { ⌜ ShortMark (now mark) ⌝ }
-    requires { ⌜ Seen (now mark) (length (now mark)) (now seen) ⌝ }
+    requires { ⌜ ContinuedRows (now mark) (length (now mark)) (now seen) ⌝ }
     ensures { λ r. ⌜ WaysOf (now (mark .entry)) r × (setOf (r .base) ≡ setOf base) ⌝ }
 {
     Ways {

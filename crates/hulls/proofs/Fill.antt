@@ -1,11 +1,11 @@
 -- Fillings by block number; and a filling of shapes laid end to end is a filling of each. Assumes nothing.
-use mathlib.Core.Path.{_≡_, refl, ap}
+use mathlib.Core.Path.{_≡_, refl, sym, ap, subst}
 use mathlib.Core.List.{List, [], _∷_, _++_}
 use mathlib.Core.Logic.{_↔_}
-use Prim.Native.Nat.{ℕ, zero, suc, _<_}
+use Prim.Native.Nat.{ℕ, zero, suc, _+_, _≤_, _<_}
 use native.Mathlib.Omega.{arith}
-use lib.ListN.{length, getD, take, drop}
-use lib.Seq.{take-at, drop-at}
+use lib.ListN.{length, getD, take, drop, length-drop, take-append-drop}
+use lib.Seq.{take-at, drop-at, length-take-le}
 use Rattle.shapes.specs.Shape.{Block, Run, Filling, done, fill, textOf, noBlock}
 use Rattle.hulls.specs.Hull.{Pairs, Satisfies}
 
@@ -37,6 +37,16 @@ split-first (b ∷ X) Y (fill r f) = fill r (split-first X Y f)
 pub split-second : (X Y : List Block) {f : List (List ℕ)} → Filling (X ++ Y) f → Filling Y (drop (length X) f)
 split-second [] Y f = f
 split-second (b ∷ X) Y (fill r f) = split-second X Y f
+
+-- a part of a filling fills the part
+pub part-filling : (m n : ℕ) {S : List Block} {f : List (List ℕ)} → m + n ≤ length S → Filling S f → Filling (take n (drop m S)) (take n (drop m f))
+part-filling m n {S} {f} h x =
+    let front : length (take m S) ≡ m = length-take-le m S (omega arith) in
+    let rest : Filling (drop m S) (drop m f) =
+    subst (λ (k : ℕ). Filling (drop m S) (drop k f)) front (split-second (take m S) (drop m S) (subst (λ (B : List Block). Filling B f) (sym (take-append-drop m S)) x)) in
+    let size : length (take n (drop m S)) ≡ n = length-take-le n (drop m S) (let e = length-drop m S in omega arith) in
+    subst (λ (k : ℕ). Filling (take n (drop m S)) (take k (drop m f))) size
+    (split-first (take n (drop m S)) (drop n (drop m S)) (subst (λ (B : List Block). Filling B (drop m f)) (sym (take-append-drop n (drop m S))) rest))
 
 -- a relation of two texts, from their runs end to end
 pub pairs : (R : List ℕ → List ℕ → Type 0) (x y : List (List ℕ)) (n : ℕ) → length x ≡ n → Pairs R n (x ++ y) ↔ R (textOf x) (textOf y)

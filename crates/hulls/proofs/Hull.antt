@@ -1,16 +1,16 @@
 -- The laws of the hull, for every rule: it is determined, keeps every choice that satisfies the rule, grows with the
 -- blocks, and is its own hull. Assumes nothing.
-use mathlib.Core.Path.{_≡_, refl, sym, ap, _∙_}
-use mathlib.Core.List.{List, [], _∷_}
+use mathlib.Core.Path.{_≡_, refl, sym, ap, _∙_, subst₂}
+use mathlib.Core.List.{List, [], _∷_, _++_}
 use Prim.Native.Nat.{ℕ, zero, suc, _≤_, _<_}
 use native.Mathlib.Omega.{arith}
 use lib.ListN.{length, getD}
-use lib.Seq.{ext-getD}
+use lib.Seq.{ext-getD, take-at, drop-at}
 use Rattle.plain.specs.All.{All, more}
 use Rattle.shapes.specs.Shape.{Block, Sound, Run, Filling, noBlock}
 use Rattle.hulls.specs.Hull.{Satisfies, None, Taken, Hull, Outcome, none, shapes, NarrowsTo, to-none, to-shapes}
 use Rattle.hulls.specs.Book.{Within, end, next}
-use Rattle.hulls.proofs.Order.{within-of, within-size, within-refl, within-filling}
+use Rattle.hulls.proofs.Order.{within-of, within-size, within-refl, within-take, within-drop, within-join, within-filling}
 use Rattle.hulls.proofs.Fill.{filling-size, filling-at, filling-of}
 use Rattle.hulls.proofs.Tight.{tight-same, tight-least, tight-mono, tight-one, tight-sound}
 
@@ -104,6 +104,14 @@ between h v w = same-hull (sym (within-size w)) (λ f s. widens v (keeps s h)) (
 -- so the hull is its own hull
 pub again : {P : List (List ℕ) → Type 0} {S H : List Block} → Hull P S H → Hull P H H
 again h = between h (within-refl _) (hull-within h)
+
+-- the first part of the hull in its place, all the rest as entered
+pub left-hull : {P : List (List ℕ) → Type 0} (X L I J : List Block) → length I ≡ length X → Hull P (X ++ L) (I ++ J) → Hull P (I ++ L) (I ++ J)
+left-hull X L I J e h =
+    let w = hull-within h in
+    let first : Within I X = subst₂ Within (take-at I J (length X) e) (take-at X L (length X) refl) (within-take (length X) w) in
+    let rest : Within J L = subst₂ Within (drop-at I J (length X) e) (drop-at X L (length X) refl) (within-drop (length X) w) in
+    between h (within-join (within-refl I) rest) (within-join first (within-refl L))
 
 -- rules that imply each other on the fillings of S have the same hull
 pub same-rule : {P Q : List (List ℕ) → Type 0} {S H : List Block} → ((f : List (List ℕ)) → Filling S f → P f → Q f) → ((f : List (List ℕ)) → Filling S f → Q f → P f)

@@ -2,7 +2,8 @@
 use mathlib.Core.Path.{_≡_, refl, sym, ap, _∙_}
 use mathlib.Core.List.{List, _++_}
 use Prim.Native.Nat.{ℕ}
-use lib.ListN.{length, take, drop}
+use native.Mathlib.Omega.{arith}
+use lib.ListN.{length, take, drop, length-append}
 use lib.Seq.{take-at, drop-at}
 use Rattle.answers.specs.declared.Narrowed.{Narrowed}
 use Rattle.answers.specs.declared.Narrowed.the-variants.{Narrow, None as no-triple, Refused}
@@ -19,6 +20,18 @@ apart a b c d n e f p = (
   sym (take-at a b n e) ∙ ap (take n) p ∙ take-at c d n f,
   sym (drop-at a b n e) ∙ ap (drop n) p ∙ drop-at c d n f,
 )
+
+-- what is left of the third shape has its blocks too
+pub size-third : {xs ys zs ox oy oz ox′ oy′ oz′ : List ℕ} (n : JoinNarrows xs ys zs ox oy oz ox′ oy′ oz′) → length (n .third) ≡ length (shapeOf zs)
+size-third {xs} {ys} {zs} n =
+    let a = length-append (n .first) (n .second ++ n .third) in
+    let b = length-append (shapeOf xs) (shapeOf ys ++ shapeOf zs) in
+    let c = length-append (n .second) (n .third) in
+    let d = length-append (shapeOf ys) (shapeOf zs) in
+    let h = n .hull .size in
+    let e = n .size-first in
+    let f = n .size-second in
+    omega arith
 
 module _ (xs ys zs ox oy oz : List ℕ) where
   pub join-narrows-one : {ox′ oy′ oz′ ox″ oy″ oz″ : List ℕ} → JoinNarrows xs ys zs ox oy oz ox′ oy′ oz′ → JoinNarrows xs ys zs ox oy oz ox″ oy″ oz″

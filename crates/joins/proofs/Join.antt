@@ -37,6 +37,24 @@ module _ (X L : List Block) (m : ℕ) where
   pub join-hull : (I J : List Block) → length I ≡ length L → Hull (Pairs Same (length L)) (L ++ X) (I ++ J) → Hull (Triples (length X) m) (X ++ L) (J ++ I)
   join-hull I J e h = same-rule (λ f x p. sym p ∙ cut m (drop (length X) f)) (λ f x p. cut m (drop (length X) f) ∙ sym p) (turned-hull Same L X I J e h)
 
+-- ---- a triple is a pair of the first shape and the other two laid end to end, with one text
+
+module _ (X Y Z : List Block) where
+  pub pair-none : None (Triples (length X) (length Y)) (X ++ (Y ++ Z)) → None (Pairs Same (length X)) (X ++ (Y ++ Z))
+  pair-none n = same-none (λ f b p. p ∙ cut (length Y) (drop (length X) f)) n
+
+  pub pair-hull : {H : List Block} → Hull (Triples (length X) (length Y)) (X ++ (Y ++ Z)) H → Hull (Pairs Same (length X)) (X ++ (Y ++ Z)) H
+  pair-hull h = same-rule (λ f b p. p ∙ sym (cut (length Y) (drop (length X) f))) (λ f b p. p ∙ cut (length Y) (drop (length X) f)) h
+
+module _ {xs ys zs : List ℕ} (ok : JoinAccepted xs ys zs) where
+  -- the pairs of x and the line, whichever way the line is written
+  pub line-pairs : (P : List Block → Type 0) → P (shapeOf xs ++ (shapeOf ys ++ shapeOf zs)) → P (shapeOf xs ++ shapeOf (ys ++ zs))
+  line-pairs P p = subst (λ (L : List Block). P (shapeOf xs ++ L)) (sym (line-shape ok)) p
+
+  pub join-pair : {H : List Block} → Hull (Pairs Same (length (shapeOf xs))) (shapeOf xs ++ (shapeOf ys ++ shapeOf zs)) H
+      → Hull (Pairs Same (length (shapeOf xs))) (shapeOf xs ++ shapeOf (ys ++ zs)) H
+  join-pair {H} h = line-pairs (λ (S : List Block). Hull (Pairs Same (length (shapeOf xs))) S H) h
+
 -- ---- the answers
 
 module _ {xs ys zs : List ℕ} (ok : JoinAccepted xs ys zs) where

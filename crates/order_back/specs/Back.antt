@@ -10,7 +10,7 @@ use Rattle.sets.specs.Set.{setOf, Exactly}
 use Rattle.shapes.specs.Shape.{Block, total, blockCount}
 use Rattle.shapes.specs.Lent.{shapeOf, blockAt}
 use Rattle.rows.specs.Row.{rowIn, tableSize, rowCount}
-use Rattle.rows.specs.Steps.{Matched, Given, Together}
+use Rattle.rows.specs.Steps.{MeetsOne, Given, Together}
 use Rattle.carries.specs.Climb.{Spans}
 use Rattle.row_steps.specs.declared.Runs.{Runs}
 use Rattle.order_sides.specs.Guide.{Guide}
@@ -35,8 +35,8 @@ pub record Ready (x zones ends slots spans : List ℕ) (runs : Runs) (u : ℕ) (
 
 -- The positions of the first k blocks of x, sorted by the bases that their bases meet.
 pub record SortedBy (x slots : List ℕ) (k u same apart : ℕ) (may : Bool) (r : Sorts) : Type 0 where
-  pub stays : Exactly (setOf (r .same)) (Matched (λ j. blockAt x j .base) (rowIn slots) k same)
-  pub parts : Exactly (setOf (r .apart)) (Matched (λ j. blockAt x j .base) (rowIn slots) k apart)
+  pub stays : Exactly (setOf (r .same)) (MeetsOne (λ j. blockAt x j .base) (rowIn slots) k same)
+  pub parts : Exactly (setOf (r .apart)) (MeetsOne (λ j. blockAt x j .base) (rowIn slots) k apart)
   pub leaves : Exactly (setOf (r .over)) (λ i. ((i ≡ u) × (may ≡ true)) ⊎ Holds (setOf (r .apart)) i)
 
 -- The base is given to each of the first k blocks that has a slot in the row.

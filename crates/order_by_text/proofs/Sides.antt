@@ -20,7 +20,7 @@ use Rattle.rows.specs.Steps.{AnyOf}
 use Rattle.row_blocks.specs.Blocks.{LengthBy, SomeLength, ToldBy, ToldTo}
 use Rattle.row_blocks.proofs.Out.{narrowed, narrowed-size, narrowed-at, narrowed-out}
 use Rattle.order_sides.specs.Guide.{Guide, KeptTo, Clear}
-use Rattle.order_sides.specs.Collect.{RunEndsAt, Collected}
+use Rattle.order_sides.specs.Collect.{RunEndsAt, SideCollected}
 use Rattle.order_sides.proofs.Runs.{Spot}
 use Rattle.order_sides.proofs.Side.{spot, side-none, side-ends, side-hull}
 use Rattle.row_paths.specs.Laid.{Laid}
@@ -62,7 +62,7 @@ module _ {x z e s : List ℕ} (l : Laid x z e s) {u : ℕ} (size : u ≡ total (
 
       module _ (small : All Small (shapeOf x)) {out out′ : List ℕ} (room : length x ≤ length out) (told : ToldTo chars′ quit moved x (blockCount x) out out′) where
         collected-at : (i : ℕ) → i < length (shapeOf x)
-            → Collected (slotAt (shapeOf x)) G (total (shapeOf x)) (total (take i (shapeOf x))) (getD (shapeOf x) i noBlock) (getD (narrowed x out out′ (l .whole .blocks) room told) i noBlock)
+            → SideCollected (slotAt (shapeOf x)) G (total (shapeOf x)) (total (take i (shapeOf x))) (getD (shapeOf x) i noBlock) (getD (narrowed x out out′ (l .whole .blocks) room told) i noBlock)
         collected-at i h =
             let w = shape-length x in
             let n = some-ends i h in

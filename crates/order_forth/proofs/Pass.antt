@@ -10,7 +10,7 @@ use Rattle.sets.specs.Set.{Exactly}
 use Rattle.shapes.specs.Lent.{shapeOf, blockAt}
 use Rattle.walks.specs.Walk.{slotAt}
 use Rattle.rows.specs.Row.{rowIn, PutRow, tableSize}
-use Rattle.rows.specs.Steps.{Leads, Matched}
+use Rattle.rows.specs.Steps.{Leads, MeetsOne}
 use Rattle.rows.proofs.Rows.{rows-more}
 use Rattle.order_guides.specs.Guide.{nextOf}
 use Rattle.row_paths.specs.Laid.{Laid}
@@ -20,8 +20,8 @@ use Rattle.order_rows.proofs.Evens.{row-first, row-next, limit-empty}
 use Rattle.shapes.specs.Shape.{blockCount}
 use Rattle.order_forth.specs.Forth.{Forth, ForthTo}
 
-pub same-mask : {A B : ℕ → ℕ} {n k s t : ℕ} → s ≡ t → Exactly n (Matched A B k s) → Exactly n (Matched A B k t)
-same-mask {A} {B} {n} {k} e x = subst (λ (v : ℕ). Exactly n (Matched A B k v)) e x
+pub same-mask : {A B : ℕ → ℕ} {n k s t : ℕ} → s ≡ t → Exactly n (MeetsOne A B k s) → Exactly n (MeetsOne A B k t)
+same-mask {A} {B} {n} {k} e x = subst (λ (v : ℕ). Exactly n (MeetsOne A B k v)) e x
 
 module _ {x z e s : List ℕ} (l : Laid x z e s) (text : List ℕ) (m : ℕ) where
   -- the row of the starts
@@ -40,7 +40,7 @@ module _ {x z e s : List ℕ} (l : Laid x z e s) (text : List ℕ) (m : ℕ) whe
 
   -- one more
   pub forth-more : {k row mask mask′ a u r q n : ℕ} {w w′ : List ℕ} → ForthTo x s text m k w row mask q → q < m → n ≡ q + 1
-      → Exactly mask′ (Matched (λ j. blockAt x j .base) (rowIn s) k (nextOf (take m text) q)) → a ≡ bitAnd row mask′ → u ≡ a * 2 % 2 ^ 256
+      → Exactly mask′ (MeetsOne (λ j. blockAt x j .base) (rowIn s) k (nextOf (take m text) q)) → a ≡ bitAnd row mask′ → u ≡ a * 2 % 2 ^ 256
       → Exactly r (Leads (rowIn e) (rowIn z) k u) → PutRow w n r w′ → ForthTo x s text m k w′ r mask′ n
   forth-more {k} {row} {mask} {mask′} {r = r} {q = q} {n = n} {w} {w′} t h at c ea eu y p =
       let next = row-next {T = nextOf (take m text)} (laid-zones l (t .blocks)) row mask′ q (t .last) (laid-meets l (t .blocks) c) ea eu y in

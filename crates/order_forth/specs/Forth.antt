@@ -8,7 +8,7 @@ use Rattle.sets.specs.Set.{Exactly}
 use Rattle.shapes.specs.Lent.{shapeOf, blockAt}
 use Rattle.walks.specs.Walk.{slotAt}
 use Rattle.rows.specs.Row.{rowIn, tableSize}
-use Rattle.rows.specs.Steps.{Matched}
+use Rattle.rows.specs.Steps.{MeetsOne}
 use Rattle.order_guides.specs.Guide.{nextOf}
 use Rattle.order_rows.specs.Rows.{Matches, MatchRows, Limit}
 use Rattle.shapes.specs.Shape.{blockCount}
@@ -26,4 +26,4 @@ pub record ForthTo (x slots text : List ℕ) (m k : ℕ) (rows : List ℕ) (row 
   pub within : q ≤ m
   pub matched : MatchRows (slotAt (shapeOf x)) (nextOf (take m text)) rows q
   pub last : Exactly row (λ i. Matches (slotAt (shapeOf x)) (nextOf (take m text)) i q)
-  pub masked : 0 < q → Exactly mask (Matched (λ j. blockAt x j .base) (rowIn slots) k (nextOf (take m text) (q - 1)))
+  pub masked : 0 < q → Exactly mask (MeetsOne (λ j. blockAt x j .base) (rowIn slots) k (nextOf (take m text) (q - 1)))

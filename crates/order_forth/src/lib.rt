@@ -7,7 +7,7 @@ ghost use lib.ListN.{length, take};
 ghost use Rattle.sets.specs.Set.{setOf, Exactly};
 ghost use Rattle.shapes.specs.Lent.{blockAt};
 ghost use Rattle.rows.specs.Row.{rowIn, rowCount, tableSize};
-ghost use Rattle.rows.specs.Steps.{Matched};
+ghost use Rattle.rows.specs.Steps.{MeetsOne};
 ghost use Rattle.order_guides.specs.Guide.{Plain, nextOf};
 ghost use Rattle.row_paths.specs.Laid.{Laid};
 ghost use Rattle.shapes.specs.Shape.{blockCount};
@@ -17,8 +17,8 @@ ghost use Rattle.order_forth.specs.Forth.{Forth};
 fn next_mask(x: &[u64], slots: &[u64], k: usize, text: &[u8], m: usize, q: usize, mask: Set) -> Set
     requires { ⌜ (k ≤ blockCount (now x)) × (k ≤ rowCount (now slots)) ⌝ }
     requires { ⌜ Plain (now text) m × (q < m) ⌝ }
-    requires { ⌜ (0 < q → Exactly (setOf mask) (Matched (λ j. blockAt (now x) j .base) (rowIn (now slots)) k (nextOf (take m (now text)) (q - 1)))) ⌝ }
-    ensures { λ r. ⌜ Exactly (setOf r) (Matched (λ j. blockAt (now (x .entry)) j .base) (rowIn (now (slots .entry))) k (nextOf (take m (now (text .entry))) q)) ⌝ }
+    requires { ⌜ (0 < q → Exactly (setOf mask) (MeetsOne (λ j. blockAt (now x) j .base) (rowIn (now slots)) k (nextOf (take m (now text)) (q - 1)))) ⌝ }
+    ensures { λ r. ⌜ Exactly (setOf r) (MeetsOne (λ j. blockAt (now (x .entry)) j .base) (rowIn (now (slots .entry))) k (nextOf (take m (now (text .entry))) q)) ⌝ }
 {
     if 0 < q {
         if text[q] == text[q - 1] {

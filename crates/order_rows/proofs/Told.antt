@@ -10,7 +10,7 @@ use Rattle.sets.proofs.Exact.{both-exactly}
 use Rattle.shapes.specs.Shape.{Block}
 use Rattle.row_blocks.specs.Blocks.{LengthBy, early, full, bare, ToldBy}
 use Rattle.order_sides.specs.Guide.{Guide, Clear, Even, Free}
-use Rattle.order_sides.specs.Collect.{Passes, RunEndsAt, Collected}
+use Rattle.order_sides.specs.Collect.{SidePasses, RunEndsAt, SideCollected}
 use Rattle.order_sides.proofs.Runs.{Spot}
 use Rattle.order_rows.specs.Rows.{Matches, MayQuit, MayMove, MayTake, Known}
 use Rattle.order_rows.proofs.Evens.{even-taken, Led, begin, ended, taken, led}
@@ -126,35 +126,35 @@ module _ {X : ℕ → Block} {U p : ℕ} {b : Block} (at : Spot X U p b) where
         in-slot : (k : ℕ) → k < b .upper → Holds (S j) (p + k)
         in-slot k l = slot .has (p + k) (omega arith, omega arith)
 
-        pub char-passes : (c : ℕ) → Holds (b .base) c → Holds (A j) c → Passes X G U p b c
+        pub char-passes : (c : ℕ) → Holds (b .base) c → Holds (A j) c → SidePasses X G U p b c
         char-passes c h a = go (x .so j c jw a)
           where
-            go : MayTake X G U (S j) c → Passes X G U p b c
+            go : MayTake X G U (S j) c → SidePasses X G U p b c
             go (MayTake.stays q i s m g) =
                 let l = within i s in
-                Passes.stays (i - p) q (l .1) h (subst (λ (y : ℕ). Even X G y q) (l .0) (m .reached)) g (subst (λ (y : ℕ). Clear X G U (y + 1) (q + 1)) (l .0) (m .on))
-            go (MayTake.parts q i s m g) = let l = within i s in Passes.parts (i - p) q (l .1) h (subst (λ (y : ℕ). Even X G y q) (l .0) (m .reached)) g
-            go (MayTake.free i s u g f) = let l = within i s in Passes.free (i - p) (l .1) h (subst (Free X G) (l .0) f)
+                SidePasses.stays (i - p) q (l .1) h (subst (λ (y : ℕ). Even X G y q) (l .0) (m .reached)) g (subst (λ (y : ℕ). Clear X G U (y + 1) (q + 1)) (l .0) (m .on))
+            go (MayTake.parts q i s m g) = let l = within i s in SidePasses.parts (i - p) q (l .1) h (subst (λ (y : ℕ). Even X G y q) (l .0) (m .reached)) g
+            go (MayTake.free i s u g f) = let l = within i s in SidePasses.free (i - p) (l .1) h (subst (Free X G) (l .0) f)
 
-        own : {c : ℕ} → Passes X G U p b c → Holds (b .base) c
-        own (Passes.free k l h f) = h
-        own (Passes.parts k q l h v g) = h
-        own (Passes.stays k q l h v g r) = h
+        own : {c : ℕ} → SidePasses X G U p b c → Holds (b .base) c
+        own (SidePasses.free k l h f) = h
+        own (SidePasses.parts k q l h v g) = h
+        own (SidePasses.stays k q l h v g r) = h
 
-        pub passes-char : {c : ℕ} → c < 256 → Passes X G U p b c → Holds (A j) c
-        passes-char {c} u (Passes.free k l h f) = let fits = at .fits in x .has j c jw (MayTake.free (p + k) (in-slot k l) (omega arith) u f)
-        passes-char {c} u (Passes.parts k q l h v g) = x .has j c jw (MayTake.parts q (p + k) (in-slot k l) (record {
+        pub passes-char : {c : ℕ} → c < 256 → SidePasses X G U p b c → Holds (A j) c
+        passes-char {c} u (SidePasses.free k l h f) = let fits = at .fits in x .has j c jw (MayTake.free (p + k) (in-slot k l) (omega arith) u f)
+        passes-char {c} u (SidePasses.parts k q l h v g) = x .has j c jw (MayTake.parts q (p + k) (in-slot k l) (record {
           reached = v;
           meets = record { shared = c; first = subst (λ (y : ℕ). Holds y c) (sym (slot-base k l)) h; second = g };
         }) g)
-        passes-char {c} u (Passes.stays k q l h v g r) = x .has j c jw (MayTake.stays q (p + k) (in-slot k l) (record {
+        passes-char {c} u (SidePasses.stays k q l h v g r) = x .has j c jw (MayTake.stays q (p + k) (in-slot k l) (record {
           reached = v;
           meets = record { shared = c; first = subst (λ (y : ℕ). Holds y c) (sym (slot-base k l)) h; second = g };
           on = r;
         }) g)
 
         -- the block that is told
-        pub told-collected : {s : ℕ} {h : Block} → RunEndsAt X G U p b s → ((c : ℕ) → Holds (b .base) c → c < 256) → ToldBy (A j) quit moved p b h → Collected X G U p b h
+        pub told-collected : {s : ℕ} {h : Block} → RunEndsAt X G U p b s → ((c : ℕ) → Holds (b .base) c → c < 256) → ToldBy (A j) quit moved p b h → SideCollected X G U p b h
         told-collected {h = h} a small t = record {
           held = λ c y. let d = both-exactly (b .base) (A j) (t .base) .so c y in char-passes c (d .0) (d .1);
           all-held = λ c y. both-exactly (b .base) (A j) (t .base) .has c (own y, passes-char (small c (own y)) y);

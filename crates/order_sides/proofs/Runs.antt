@@ -17,7 +17,7 @@ use Rattle.walks.proofs.Walks.{walk-from, walk-append, path-of, text-of}
 use Rattle.walks.proofs.Laid.{Has, run-walk, walk-run}
 use Rattle.walks.proofs.Cut.{last-of, occurs-split, last-text, within-text, to-within, from-within}
 use Rattle.order_sides.specs.Guide.{Guide, KeepsTo, along, Even, Free}
-use Rattle.order_sides.specs.Collect.{Passes, RunEndsAt, Collected}
+use Rattle.order_sides.specs.Collect.{SidePasses, RunEndsAt, SideCollected}
 use Rattle.order_sides.proofs.Keeping.{keeps-append, CutAt, whole, early, cut, free-later, early-free, clear-of, advance-to, text-clear}
 
 -- ---- lists
@@ -203,7 +203,7 @@ module _ {X : ℕ → Block} {U p : ℕ} {b : Block} (at : Spot X U p b) where
 
     -- ---- characters
 
-    pub passes-of : (q s : List ℕ) (c : ℕ) → RunIn X G U p b (q ++ (c ∷ s)) → Passes X G U p b c
+    pub passes-of : (q s : List ℕ) (c : ℕ) → RunIn X G U p b (q ++ (c ∷ s)) → SidePasses X G U p b c
     passes-of q s c r = go (cut (r .front ++ q) (c ∷ (s ++ r .back)) (keeps-text (within-text (r .front) q s (r .back) c) (r .keeps)))
       where
         long : length (q ++ (c ∷ s)) ≡ length q + suc (length s)
@@ -221,16 +221,16 @@ module _ {X : ℕ → Block} {U p : ℕ} {b : Block} (at : Spot X U p b) where
         rest : All (Holds (b .base)) (c ∷ s)
         rest = all-right q (c ∷ s) (r .run .held)
 
-        next : (st : ℕ) → Walk (along G) st 0 (r .front ++ q) → KeepsTo G st (c ∷ (s ++ r .back)) → Passes X G U p b c
-        next st w (KeepsTo.apart h) = Passes.parts (length q) st (omega (arith, high, low)) (all-head rest) (path-of walked w) h
-        next st w (KeepsTo.same h k) = Passes.stays (length q) st (omega (arith, high, low)) (all-head rest) (path-of walked w) h
+        next : (st : ℕ) → Walk (along G) st 0 (r .front ++ q) → KeepsTo G st (c ∷ (s ++ r .back)) → SidePasses X G U p b c
+        next st w (KeepsTo.apart h) = SidePasses.parts (length q) st (omega (arith, high, low)) (all-head rest) (path-of walked w) h
+        next st w (KeepsTo.same h k) = SidePasses.stays (length q) st (omega (arith, high, low)) (all-head rest) (path-of walked w) h
             (clear-of
             (walk-from (let e : p + length q + 1 ≡ p + (length q + 1) = omega (arith, high, low) in e)
             (run-walk (at .has) (length q + 1) s (r .back) (all-tail rest) (omega (arith, high, low)) (omega (arith, high, low)) (r .after))) k)
 
-        go : CutAt G 0 (r .front ++ q) (c ∷ (s ++ r .back)) → Passes X G U p b c
+        go : CutAt G 0 (r .front ++ q) (c ∷ (s ++ r .back)) → SidePasses X G U p b c
         go (whole st w k) = next st w k
-        go (early a z d st e w h) = Passes.free (length q) (omega (arith, high, low)) (all-head rest) (early-free a z d walked e w h)
+        go (early a z d st e w h) = SidePasses.free (length q) (omega (arith, high, low)) (all-head rest) (early-free a z d walked e w h)
 
     -- a free run with the character c
     free-with : {c : ℕ} (k : ℕ) → k < b .upper → Holds (b .base) c → Free X G (p + k) → (r : List ℕ) × RunIn X G U p b r × Occurs c r
@@ -275,14 +275,14 @@ module _ {X : ℕ → Block} {U p : ℕ} {b : Block} (at : Spot X U p b) where
           occurs-right q (List·Memᴰ·head refl),
         )
 
-    pub run-with : (c : ℕ) → Passes X G U p b c → (r : List ℕ) × RunIn X G U p b r × Occurs c r
-    run-with c (Passes.free k l h f) = free-with k l h f
-    run-with c (Passes.parts k q l h v g) =
+    pub run-with : (c : ℕ) → SidePasses X G U p b c → (r : List ℕ) × RunIn X G U p b r × Occurs c r
+    run-with c (SidePasses.free k l h f) = free-with k l h f
+    run-with c (SidePasses.parts k q l h v g) =
         let size = length-replicate (b .upper - k - 1) c in
         let order = at .ordered in
         let r = free-within k q c (replicate (b .upper - k - 1) c) l v h g (all-times c (b .upper - k - 1) h) (omega arith) (omega arith) in
         (r .0 ++ (c ∷ replicate (b .upper - k - 1) c), r .1, occurs-right (r .0) (List·Memᴰ·head refl))
-    run-with c (Passes.stays k q l h v g clear) =
+    run-with c (SidePasses.stays k q l h v g clear) =
         let fits = at .fits in
         let a = text-of v in
         let z = text-clear (at .bounded) (at .full) clear (omega arith) in
@@ -294,7 +294,7 @@ module _ {X : ℕ → Block} {U p : ℕ} {b : Block} (at : Spot X U p b) where
         stay-with c (i .0) (i .1) (w .run) (w .rest) (i .3) (i .4) h (w .held) (omega arith) (omega arith) (w .walk) (i .2) (w .text) (a .2) g (z .2)
 
     -- the block of the runs
-    pub collected-tight : {h : Block} → Collected X G U p b h → Tight (RunIn X G U p b) h
+    pub collected-tight : {h : Block} → SideCollected X G U p b h → Tight (RunIn X G U p b) h
     collected-tight {h} k = record {
       covers = λ r i. record {
         held = all-from r (λ c o. let s = occurs-split o in k .all-held c (passes-of (s .0) (s .1) c (subst (RunIn X G U p b) (s .2) i)));

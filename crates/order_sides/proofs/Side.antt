@@ -18,7 +18,7 @@ use Rattle.walks.proofs.Walks.{walk-from, walk-to}
 use Rattle.walks.proofs.Laid.{Has, Slots, none, next, slot-here, slot-after, in-slots}
 use Rattle.walks.proofs.Fillings.{around, rejoin, filling-walk, walk-fits, total-take, slots-take, has-at, start-at}
 use Rattle.order_sides.specs.Guide.{Guide, KeepsTo, KeptTo, Clear}
-use Rattle.order_sides.specs.Collect.{RunEndsAt, Collected}
+use Rattle.order_sides.specs.Collect.{RunEndsAt, SideCollected}
 use Rattle.order_sides.proofs.Keeping.{clear-of, text-clear}
 use Rattle.order_sides.proofs.Runs.{Spot, RunIn, ends-of, collected-tight}
 
@@ -104,7 +104,7 @@ module _ {X : ℕ → Block} (S : List Block) (slots : Slots X 0 S) (bounded : B
               keeps = subst (KeepsTo G 0) (a .text ∙ ap (λ (q : List ℕ). a .front ++ (q ++ a .back)) (k .run)) (s .rule);
             }
 
-        pub side-tight : {h : Block} → Collected X G (total S) (total (take i S)) (getD S i noBlock) h → Tight (Taken (KeptTo G) S i) h
+        pub side-tight : {h : Block} → SideCollected X G (total S) (total (take i S)) (getD S i noBlock) h → Tight (Taken (KeptTo G) S i) h
         side-tight k = tight-same taken-run run-taken (collected-tight (spot i l) k)
 
         -- where some text is on the right side, each block has some run
@@ -115,5 +115,5 @@ module _ {X : ℕ → Block} (S : List Block) (slots : Slots X 0 S) (bounded : B
             (length r, ends-of (spot i l) r (run-taken r (record { runs = s .runs; satisfies = s .satisfies; run = refl })))
 
       pub side-hull : (S′ : List Block) → length S′ ≡ length S → Clear X G (total S) 0 0
-          → ((i : ℕ) → i < length S → Collected X G (total S) (total (take i S)) (getD S i noBlock) (getD S′ i noBlock)) → Hull (KeptTo G) S S′
+          → ((i : ℕ) → i < length S → SideCollected X G (total S) (total (take i S)) (getD S i noBlock) (getD S′ i noBlock)) → Hull (KeptTo G) S S′
       side-hull S′ e k f = record { size = e; some = side-some k; tight = λ i l. side-tight i l (f i l) }

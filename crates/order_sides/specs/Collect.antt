@@ -6,10 +6,10 @@ use Rattle.shapes.specs.Shape.{Block}
 use Rattle.order_sides.specs.Guide.{Guide, Clear, Even, Free}
 
 -- Some such text has the character c in the run: it is free already, or parts from T there, or stays with T.
-pub data Passes (X : ℕ → Block) (G : Guide) (U p : ℕ) (b : Block) (c : ℕ) : Type 0 where
-  free : (k : ℕ) → k < b .upper → Holds (b .base) c → Free X G (p + k) → Passes X G U p b c
-  parts : (k q : ℕ) → k < b .upper → Holds (b .base) c → Even X G (p + k) q → Holds (G .apart q) c → Passes X G U p b c
-  stays : (k q : ℕ) → k < b .upper → Holds (b .base) c → Even X G (p + k) q → Holds (G .same q) c → Clear X G U (p + k + 1) (q + 1) → Passes X G U p b c
+pub data SidePasses (X : ℕ → Block) (G : Guide) (U p : ℕ) (b : Block) (c : ℕ) : Type 0 where
+  free : (k : ℕ) → k < b .upper → Holds (b .base) c → Free X G (p + k) → SidePasses X G U p b c
+  parts : (k q : ℕ) → k < b .upper → Holds (b .base) c → Even X G (p + k) q → Holds (G .apart q) c → SidePasses X G U p b c
+  stays : (k q : ℕ) → k < b .upper → Holds (b .base) c → Even X G (p + k) q → Holds (G .same q) c → Clear X G U (p + k + 1) (q + 1) → SidePasses X G U p b c
 
 -- Some such text has a run of length n: it is free by its end, or the run is empty or its last character stays with T.
 pub data RunEndsAt (X : ℕ → Block) (G : Guide) (U p : ℕ) (b : Block) (n : ℕ) : Type 0 where
@@ -18,9 +18,9 @@ pub data RunEndsAt (X : ℕ → Block) (G : Guide) (U p : ℕ) (b : Block) (n : 
   stays : (k q : ℕ) → n ≡ k + 1 → k < b .upper → b .lower ≤ n → Even X G (p + k) q → Meets (b .base) (G .same q) → Clear X G U (p + b .upper) (q + 1) → RunEndsAt X G U p b n
 
 -- h is the block of those runs.
-pub record Collected (X : ℕ → Block) (G : Guide) (U p : ℕ) (b h : Block) : Type 0 where
-  pub held : (c : ℕ) → Holds (h .base) c → Passes X G U p b c
-  pub all-held : (c : ℕ) → Passes X G U p b c → Holds (h .base) c
+pub record SideCollected (X : ℕ → Block) (G : Guide) (U p : ℕ) (b h : Block) : Type 0 where
+  pub held : (c : ℕ) → Holds (h .base) c → SidePasses X G U p b c
+  pub all-held : (c : ℕ) → SidePasses X G U p b c → Holds (h .base) c
   pub shortest : RunEndsAt X G U p b (h .lower)
   pub not-shorter : (n : ℕ) → RunEndsAt X G U p b n → h .lower ≤ n
   pub longest : RunEndsAt X G U p b (h .upper)

@@ -10,7 +10,7 @@ use Rattle.bases.specs.Base.{Holds, Empty}
 use Rattle.bases.proofs.Laws.{none-in-zero}
 use Rattle.plain.proofs.Plain.{lt-or-le, eq-or-ne}
 use Rattle.shapes.specs.Shape.{Block, total}
-use Rattle.walks.specs.Walk.{pick, slotAt, Path}
+use Rattle.walks.specs.Walk.{pickBlock, slotAt, Path}
 use Rattle.walks.specs.Walk as walk
 use Rattle.walks.proofs.Laid.{slot-here, slot-after, slot-end, in-slots, slots}
 use Rattle.pads.specs.Pad.{behindAll, paddedAt, one, after, PadMove, first, second, both, PadPath, stay, move, UpToEnd, Roomy}
@@ -18,15 +18,15 @@ use Rattle.pads.specs.Pad.{behindAll, paddedAt, one, after, PadMove, fir
 -- ---- the slots
 
 pub padded-slot : (pad : ℕ) (s : List Block) (i : ℕ) → (i ≡ total s → ⊥) → paddedAt pad s i ≡ slotAt s i
-unfolding paddedAt pick
-padded-slot pad s i n = ap (λ (x : Bool). pick x (behindAll pad) (slotAt s i)) (ne-eqb i (total s) n)
+unfolding paddedAt pickBlock
+padded-slot pad s i n = ap (λ (x : Bool). pickBlock x (behindAll pad) (slotAt s i)) (ne-eqb i (total s) n)
 
 pub padded-below : (pad : ℕ) (s : List Block) (i : ℕ) → i < total s → paddedAt pad s i ≡ slotAt s i
 padded-below pad s i l = padded-slot pad s i (λ e. omega arith)
 
 pub padded-end : (pad : ℕ) (s : List Block) → paddedAt pad s (total s) ≡ behindAll pad
-unfolding paddedAt pick
-padded-end pad s = ap (λ (x : Bool). pick x (behindAll pad) (slotAt s (total s))) (eq-eqb (total s) (total s) refl)
+unfolding paddedAt pickBlock
+padded-end pad s = ap (λ (x : Bool). pickBlock x (behindAll pad) (slotAt s (total s))) (eq-eqb (total s) (total s) refl)
 
 -- without padding nothing stands behind the blocks
 pub padded-nothing : (s : List Block) (i : ℕ) → paddedAt 0 s i ≡ slotAt s i

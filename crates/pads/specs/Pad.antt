@@ -7,7 +7,7 @@ use Prim.Native.Nat.{ℕ, zero, suc, _+_, _≤_, _<_}
 use lib.Dec.{eqb}
 use Rattle.bases.specs.Base.{Holds, Meets}
 use Rattle.shapes.specs.Shape.{Block, total}
-use Rattle.walks.specs.Walk.{pick, slotAt}
+use Rattle.walks.specs.Walk.{pickBlock, slotAt}
 
 -- Behind all blocks: the padding may come, and there is no run to end.
 abbrev pub behindAll : ℕ → Block
@@ -15,7 +15,7 @@ behindAll pad = record { base = pad; lower = 1; upper = 0 }
 
 -- What is allowed at position i of a shape with padding behind it.
 unfoldable pub paddedAt : ℕ → List Block → ℕ → Block
-paddedAt pad s i = pick (eqb i (total s)) (behindAll pad) (slotAt s i)
+paddedAt pad s i = pickBlock (eqb i (total s)) (behindAll pad) (slotAt s i)
 
 -- The position after a character: the next, but the end, which has no room, stays.
 unfoldable pub one : ℕ → ℕ

@@ -2,7 +2,8 @@
 use mathlib.Core.Path.{_≡_, refl, sym, ap, _∙_}
 use mathlib.Core.List.{List, _++_}
 use Prim.Native.Nat.{ℕ}
-use lib.ListN.{length, take, drop}
+use native.Mathlib.Omega.{arith}
+use lib.ListN.{length, take, drop, length-append}
 use lib.Seq.{take-at, drop-at}
 use Rattle.answers.specs.declared.Narrowed.{Narrowed}
 use Rattle.answers.specs.declared.Narrowed.the-variants.{Narrow, None as no-pair, Refused}
@@ -12,6 +13,15 @@ use Rattle.shapes.specs.Lent.{shapeOf, wordsOf}
 use Rattle.hulls.proofs.Hull.{one-hull, hull-or-none}
 use Rattle.pairs.specs.Narrow.{Narrows, NarrowPromise}
 use Rattle.pairs.proofs.Pair.{narrow-one, narrow-not}
+
+-- what is left of the second shape has its blocks too
+pub size-second : {R : List ℕ → List ℕ → Type 0} {xs ys ox oy ox′ oy′ : List ℕ} (n : Narrows R xs ys ox oy ox′ oy′) → length (n .second) ≡ length (shapeOf ys)
+size-second {xs = xs} {ys = ys} n =
+    let a = length-append (n .first) (n .second) in
+    let b = length-append (shapeOf xs) (shapeOf ys) in
+    let c = n .hull .size in
+    let e = n .size in
+    omega arith
 
 module _ (R : List ℕ → List ℕ → Type 0) (xs ys ox oy : List ℕ) where
   -- the hull cut where the first shape ends

@@ -8,7 +8,7 @@ use Rattle.answers.specs.declared.Checked.{Checked}
 use Rattle.answers.specs.declared.Checked.the-variants.{Sound, Refused}
 use Rattle.answers.proofs.Turns.{OneOf, need-one, in-turn-one}
 use Rattle.shapes.specs.Lent.{Accepted, ShapeChecked}
-use Rattle.shapes.proofs.Refused.{of-shape}
+use Rattle.shapes.proofs.Refused.{of-shape, Other, shape-other}
 use Rattle.pairs.specs.Pair.{PairAccepted, pairTurns, PairRefused, ofPair, PairChecked, Room, narrowTurns, NarrowRefused, ofNarrowing}
 
 pub second-checked : (xs ys : List ℕ) (r : Checked) → Accepted xs → ShapeChecked 2 ys r → PairChecked xs ys r
@@ -31,3 +31,8 @@ module _ {xs ys : List ℕ} {w a b : ℕ} where
 
   pub narrow-not : {t : Told} → NarrowRefused xs ys w a b t → PairAccepted xs ys → Room xs ys w a b → ⊥
   narrow-not p ok r = of-narrowing .not p (ok, r)
+
+-- the numbers of its refusals are those of a shape
+pub pair-other : {m : ℕ} {xs ys : List ℕ} {t : Told} → Other m → PairRefused xs ys t → t .number ≡ m → ⊥
+pair-other o (here d) n = shape-other o d n
+pair-other o (later a (here d)) n = shape-other o d n

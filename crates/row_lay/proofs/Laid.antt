@@ -19,7 +19,7 @@ use Rattle.walks.specs.Walk.{lessen, past, slotAt}
 use Rattle.walks.proofs.Laid.{slots, slot-after}
 use Rattle.walks.proofs.Fillings.{total-take, has-at, start-at}
 use Rattle.rows.specs.Row.{rowIn, PutRow}
-use Rattle.rows.specs.Steps.{InTurn, Matched}
+use Rattle.rows.specs.Steps.{InTurn, MeetsOne}
 use Rattle.rows.proofs.Rows.{rows-more}
 use Rattle.row_lay.specs.Lay.{start, end, LayTo, Lay}
 
@@ -192,14 +192,14 @@ module _ {S : List Block} {z e s : List ℕ} (l : Lay S z e s) where
       (λ h. absurd (none-in-zero c (subst (λ (b : Block). Holds (b .base) c) (past-all S q h) g)))
       (lt-or-le q (total S))
 
-  pub matched-meets : (base q : ℕ) → Matched (λ j. getD S j noBlock .base) (rowIn s) (length S) base q → Meets base (slotAt S q .base)
+  pub matched-meets : (base q : ℕ) → MeetsOne (λ j. getD S j noBlock .base) (rowIn s) (length S) base q → Meets base (slotAt S q .base)
   matched-meets base q m = record {
     shared = m .meets .shared;
     first = m .meets .first;
     second = subst (λ (x : ℕ). Holds x (m .meets .shared)) (sym (slot-base (m .number) q (m .below) (m .held))) (m .meets .second);
   }
 
-  pub meets-matched : (base q : ℕ) → Meets base (slotAt S q .base) → Matched (λ j. getD S j noBlock .base) (rowIn s) (length S) base q
+  pub meets-matched : (base q : ℕ) → Meets base (slotAt S q .base) → MeetsOne (λ j. getD S j noBlock .base) (rowIn s) (length S) base q
   meets-matched base q m =
       let i = in-slot q (m .shared) (m .second) in
       record {

@@ -14,7 +14,7 @@ use Rattle.sets.proofs.Exact.{exactly-as, exactly-at, none-exactly, both-exactl
 use Rattle.shapes.specs.Shape.{Block}
 use Rattle.pads.specs.Pad.{after, PadPath, UpToEnd, Along}
 use Rattle.pads.proofs.Paths.{after-stays, turn-pad}
-use Rattle.rows.specs.Steps.{Matched, Given}
+use Rattle.rows.specs.Steps.{MeetsOne, Given}
 use Rattle.row_paths.specs.Rows.{Quits, Takes, From, Seen, Used, Gives, Gathered}
 use Rattle.row_paths.proofs.Reached.{along-path, path-along, left-last, pad-within}
 use Rattle.row_paths.proofs.Back.{turn-takes, seen-more, some-taken, none-taken}
@@ -37,7 +37,7 @@ added m pad {r = false} t f g = exactly-at (g refl) (record { so = λ x h. inl h
 
 module _ {X Y : ℕ → Block} {U W : ℕ} where
   -- the characters of the block that has used some positions of Y, its end among them
-  pub joined-gives : {B S : ℕ → ℕ} {k pad i e used c m : ℕ} {r : Bool} → PaddedRows Y B S k pad W → Exactly used (Used X Y U W i e) → Exactly m (Matched S B k used)
+  pub joined-gives : {B S : ℕ → ℕ} {k pad i e used c m : ℕ} {r : Bool} → PaddedRows Y B S k pad W → Exactly used (Used X Y U W i e) → Exactly m (MeetsOne S B k used)
       → Tells r (Holds used W) → (r ≡ true → c ≡ bitOr m pad) → (r ≡ false → c ≡ m) → Exactly c (Gives X Y U W i e 0)
   joined-gives {B} {S} {k} {pad} {i} {e} {used} {c} {m} s x y t f g = exactly-as to from (added m pad t f g)
     where

@@ -8,7 +8,7 @@ use Rattle.sets.proofs.Exact.{exactly-as}
 use Rattle.shapes.specs.Lent.{shapeOf, blockAt}
 use Rattle.walks.specs.Walk.{slotAt}
 use Rattle.rows.specs.Row.{rowIn}
-use Rattle.rows.specs.Steps.{InTurn, Matched}
+use Rattle.rows.specs.Steps.{InTurn, MeetsOne}
 use Rattle.shapes.specs.Shape.{blockCount}
 use Rattle.bases.proofs.Sets.{turned}
 use Rattle.row_paths.specs.Rows.{Zones}
@@ -23,5 +23,5 @@ module _ {x z e s : List ℕ} (l : Laid x z e s) {k : ℕ} (d : k ≡ blockCount
   laid-zones = zones-at x d (l .lay) (l .whole .short)
 
   -- the positions whose base meets a base
-  pub laid-meets : {base n : ℕ} → Exactly n (Matched (λ j. blockAt x j .base) (rowIn s) k base) → Exactly n (λ i. Meets (slotAt (shapeOf x) i .base) base)
+  pub laid-meets : {base n : ℕ} → Exactly n (MeetsOne (λ j. blockAt x j .base) (rowIn s) k base) → Exactly n (λ i. Meets (slotAt (shapeOf x) i .base) base)
   laid-meets y = exactly-as (λ i m. turned m) (λ i m. turned m) (mine-at x d (l .lay) y)

@@ -12,7 +12,7 @@ use Rattle.shapes.specs.Lent.{shapeOf, blockAt}
 use Rattle.shapes.proofs.Lent.{shape-length, shape-at}
 use Rattle.walks.specs.Walk.{slotAt}
 use Rattle.rows.specs.Row.{rowIn}
-use Rattle.rows.specs.Steps.{InTurn, Matched}
+use Rattle.rows.specs.Steps.{InTurn, MeetsOne}
 use Rattle.row_lay.specs.Lay.{Lay}
 use Rattle.row_lay.proofs.Laid.{lay-in-turn, matched-meets, meets-matched}
 use Rattle.walks.proofs.Fillings.{total-take}
@@ -22,7 +22,7 @@ use Rattle.row_paths.proofs.Chars.{SlotRows, PaddedRows}
 use Rattle.row_paths.proofs.Shapes.{block-in, zones-of, slot-rows, padded-block, padded-zones, padded-rows, padded-shares}
 
 -- the same pairs of sets
-matched-as : {A A′ B : ℕ → ℕ} {k k′ s q : ℕ} → ((j : ℕ) → j < k → A j ≡ A′ j) → k ≡ k′ → Matched A B k s q → Matched A′ B k′ s q
+matched-as : {A A′ B : ℕ → ℕ} {k k′ s q : ℕ} → ((j : ℕ) → j < k → A j ≡ A′ j) → k ≡ k′ → MeetsOne A B k s q → MeetsOne A′ B k′ s q
 matched-as f e m = record {
   number = m .number;
   below = let b = m .below in omega arith;
@@ -34,7 +34,7 @@ base-at : (y : List ℕ) (j : ℕ) → j < blockCount y → blockAt y j .base �
 base-at y j h = ap (λ (b : Block). b .base) (sym (shape-at y j noBlock h))
 
 module _ (y : List ℕ) {z e s : List ℕ} (l : Lay (shapeOf y) z e s) where
-  mine-of : {base n : ℕ} → Exactly n (Matched (λ j. blockAt y j .base) (rowIn s) (blockCount y) base) → Exactly n (λ q. Meets base (slotAt (shapeOf y) q .base))
+  mine-of : {base n : ℕ} → Exactly n (MeetsOne (λ j. blockAt y j .base) (rowIn s) (blockCount y) base) → Exactly n (λ q. Meets base (slotAt (shapeOf y) q .base))
   mine-of {base} x = exactly-as
       (λ q m. matched-meets l base q (matched-as (base-at y) (sym (shape-length y)) m))
       (λ q m. matched-as (λ j h. sym (base-at y j (let c = shape-length y in omega arith))) (shape-length y) (meets-matched l base q m)) x
@@ -46,8 +46,8 @@ module _ (y : List ℕ) {z e s : List ℕ} (l : Lay (shapeOf y) z e s) where
   zones-in h = subst (Zones (slotAt (shapeOf y)) (rowIn z) (rowIn e)) (shape-length y) (zones-of l h)
 
 -- the same, where k is the number of blocks
-pub mine-at : (y : List ℕ) {k base n : ℕ} {z e s : List ℕ} → k ≡ blockCount y → Lay (shapeOf y) z e s → Exactly n (Matched (λ j. blockAt y j .base) (rowIn s) k base) → Exactly n (λ q. Meets base (slotAt (shapeOf y) q .base))
-mine-at y {base = base} {n = n} {s = s} d l x = mine-of y l (subst (λ (j : ℕ). Exactly n (Matched (λ i. blockAt y i .base) (rowIn s) j base)) d x)
+pub mine-at : (y : List ℕ) {k base n : ℕ} {z e s : List ℕ} → k ≡ blockCount y → Lay (shapeOf y) z e s → Exactly n (MeetsOne (λ j. blockAt y j .base) (rowIn s) k base) → Exactly n (λ q. Meets base (slotAt (shapeOf y) q .base))
+mine-at y {base = base} {n = n} {s = s} d l x = mine-of y l (subst (λ (j : ℕ). Exactly n (MeetsOne (λ i. blockAt y i .base) (rowIn s) j base)) d x)
 
 pub zones-at : (y : List ℕ) {k : ℕ} {z e s : List ℕ} → k ≡ blockCount y → Lay (shapeOf y) z e s → total (shapeOf y) ≤ 250 → Zones (slotAt (shapeOf y)) (rowIn z) (rowIn e) k
 zones-at y {z = z} {e = e} d l h = subst (Zones (slotAt (shapeOf y)) (rowIn z) (rowIn e)) (sym d) (zones-in y l h)
@@ -78,7 +78,7 @@ module _ (pad : ℕ) (y : List ℕ) {k : ℕ} (d : k ≡ blockCount y) {z e s : 
       (slot-rows-at y d l)
 
   -- where a base shares a character with the blocks, and with the padding
-  pub shares-at : {base on waits m : ℕ} → m ≡ total (shapeOf y) → Exactly on (Matched (λ j. blockAt y j .base) (rowIn s) k base) → Exactly waits (λ q. Meets base pad × (q ≡ m))
+  pub shares-at : {base on waits m : ℕ} → m ≡ total (shapeOf y) → Exactly on (MeetsOne (λ j. blockAt y j .base) (rowIn s) k base) → Exactly waits (λ q. Meets base pad × (q ≡ m))
       → Shares (paddedAt pad (shapeOf y)) base on waits
   shares-at {base} {waits = waits} f x w = padded-shares pad (shapeOf y) short (mine-at y d l x) (subst (λ (q : ℕ). Exactly waits (λ p. Meets base pad × (p ≡ q))) f w)
 

@@ -15,7 +15,7 @@ use Rattle.sets.specs.Set.{Exactly}
 use Rattle.sets.proofs.Exact.{none-exactly, exactly-as}
 use Rattle.rows.specs.Row.{rowIn, PutRow}
 use Rattle.rows.proofs.Rows.{rows-more}
-use Rattle.rows.specs.Steps.{Leads, there, step, Lands, InTurn, Matched, Given}
+use Rattle.rows.specs.Steps.{Leads, there, step, Lands, InTurn, MeetsOne, Given}
 
 -- ---- one set added to another
 
@@ -184,7 +184,7 @@ module _ {Z E : ℕ → ℕ} {k s j r r′ : ℕ} (turn : InTurn Z E k) where
 
 -- ---- what is picked in the end
 
-pub all-matched : {A B : ℕ → ℕ} {j k s r : ℕ} → j ≡ k → Exactly r (Picked (Below j) (λ i. Meets s (A i)) B) → Exactly r (Matched A B k s)
+pub all-matched : {A B : ℕ → ℕ} {j k s r : ℕ} → j ≡ k → Exactly r (Picked (Below j) (λ i. Meets s (A i)) B) → Exactly r (MeetsOne A B k s)
 all-matched e = exactly-as
     (λ q p. let h = p .done in record { number = p .number; below = omega arith; meets = p .on; held = p .held })
     (λ q p. let h = p .below in record { number = p .number; done = omega arith; on = p .meets; held = p .held })
@@ -241,8 +241,8 @@ all-given e g = record {
 
 -- ---- the same of an equal row
 
-pub matched-as : {A B : ℕ → ℕ} {k r s s′ : ℕ} → s ≡ s′ → Exactly r (Matched A B k s) → Exactly r (Matched A B k s′)
-matched-as {A} {B} {k} {r} e x = subst (λ (z : ℕ). Exactly r (Matched A B k z)) e x
+pub matched-as : {A B : ℕ → ℕ} {k r s s′ : ℕ} → s ≡ s′ → Exactly r (MeetsOne A B k s) → Exactly r (MeetsOne A B k s′)
+matched-as {A} {B} {k} {r} e x = subst (λ (z : ℕ). Exactly r (MeetsOne A B k z)) e x
 
 pub given-as : {S : ℕ → ℕ} {k t s s′ : ℕ} {A B : ℕ → ℕ} → s ≡ s′ → Given S k s t A B → Given S k s′ t A B
 given-as {S} {k} {t} {A = A} {B = B} e g = subst (λ (z : ℕ). Given S k z t A B) e g

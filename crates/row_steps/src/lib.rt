@@ -8,7 +8,7 @@ ghost use lib.ListN.{length};
 ghost use Rattle.sets.specs.Set.{setOf, Exactly};
 ghost use Rattle.shapes.specs.Lent.{blockAt};
 ghost use Rattle.rows.specs.Row.{rowIn, rowCount};
-ghost use Rattle.rows.specs.Steps.{Leads, Lands, InTurn, Matched, Given, AnyOf, Together, ClosedForth, ClosedBack};
+ghost use Rattle.rows.specs.Steps.{Leads, Lands, InTurn, MeetsOne, Given, AnyOf, Together, ClosedForth, ClosedBack};
 ghost use Rattle.shapes.specs.Shape.{blockCount};
 ghost use Rattle.carries.specs.Climb.{Spans};
 
@@ -134,7 +134,7 @@ pub fn back_by(zones: &[u64], ends: &[u64], k: usize, spans: &[u64], runs: Runs,
 // The rows of the first k blocks whose base meets a base.
 pub fn matching(base: Set, blocks: &[u64], rows: &[u64], k: usize) -> Set
     requires { ⌜ (k ≤ blockCount (now blocks)) × (k ≤ rowCount (now rows)) ⌝ }
-    ensures { λ r. ⌜ Exactly (setOf r) (Matched (λ j. blockAt (now (blocks .entry)) j .base) (rowIn (now (rows .entry))) k (setOf base)) ⌝ }
+    ensures { λ r. ⌜ Exactly (setOf r) (MeetsOne (λ j. blockAt (now (blocks .entry)) j .base) (rowIn (now (rows .entry))) k (setOf base)) ⌝ }
 {
     let mut r = sets::none();
     let mut j = 0;
@@ -162,7 +162,7 @@ pub fn with(s: Set, t: Set, on: bool) -> Set
 // The bases of the first k blocks whose row meets a row.
 fn joined_wide(row: Set, blocks: &[u64], rows: &[u64], k: usize) -> Set
     requires { ⌜ (k ≤ blockCount (now blocks)) × (k ≤ rowCount (now rows)) ⌝ }
-    ensures { λ r. ⌜ Exactly (setOf r) (Matched (rowIn (now (rows .entry))) (λ j. blockAt (now (blocks .entry)) j .base) k (setOf row)) ⌝ }
+    ensures { λ r. ⌜ Exactly (setOf r) (MeetsOne (rowIn (now (rows .entry))) (λ j. blockAt (now (blocks .entry)) j .base) k (setOf row)) ⌝ }
 {
     let mut r = sets::none();
     let mut j = 0;
@@ -179,7 +179,7 @@ fn joined_wide(row: Set, blocks: &[u64], rows: &[u64], k: usize) -> Set
 // The same of a row in one word, without a branch.
 fn joined_word(row: u64, blocks: &[u64], rows: &[u64], k: usize) -> Set
     requires { ⌜ (k ≤ blockCount (now blocks)) × (k ≤ rowCount (now rows)) ⌝ }
-    ensures { λ r. ⌜ Exactly (setOf r) (Matched (rowIn (now (rows .entry))) (λ j. blockAt (now (blocks .entry)) j .base) k row) ⌝ }
+    ensures { λ r. ⌜ Exactly (setOf r) (MeetsOne (rowIn (now (rows .entry))) (λ j. blockAt (now (blocks .entry)) j .base) k row) ⌝ }
 {
     let mut r = sets::none();
     let mut j = 0;
@@ -193,7 +193,7 @@ fn joined_word(row: u64, blocks: &[u64], rows: &[u64], k: usize) -> Set
 
 pub fn joined(row: Set, blocks: &[u64], rows: &[u64], k: usize) -> Set
     requires { ⌜ (k ≤ blockCount (now blocks)) × (k ≤ rowCount (now rows)) ⌝ }
-    ensures { λ r. ⌜ Exactly (setOf r) (Matched (rowIn (now (rows .entry))) (λ j. blockAt (now (blocks .entry)) j .base) k (setOf row)) ⌝ }
+    ensures { λ r. ⌜ Exactly (setOf r) (MeetsOne (rowIn (now (rows .entry))) (λ j. blockAt (now (blocks .entry)) j .base) k (setOf row)) ⌝ }
 {
     if carries::is_word(row) {
         return joined_word(row.a, blocks, rows, k);
@@ -247,7 +247,7 @@ pub fn give(row: Set, base: Set, rows: &[u64], given: &mut [u64], k: usize)
 // blocks are given.
 fn share_wide(row: Set, base: Set, blocks: &[u64], rows: &[u64], given: &mut [u64], k: usize) -> Set
     requires { ⌜ (k ≤ blockCount (now blocks)) × (k ≤ rowCount (now rows)) × (k ≤ rowCount (now given)) ⌝ }
-    ensures { λ r. ⌜ Exactly (setOf r) (Matched (rowIn (now (rows .entry))) (λ j. blockAt (now (blocks .entry)) j .base) k (setOf row)) ⌝ }
+    ensures { λ r. ⌜ Exactly (setOf r) (MeetsOne (rowIn (now (rows .entry))) (λ j. blockAt (now (blocks .entry)) j .base) k (setOf row)) ⌝ }
     ensures { λ _. ⌜ Given (rowIn (now (rows .entry))) k (setOf row) (setOf base) (rowIn (now (given .entry))) (rowIn (now (given .exit))) ⌝ }
     ensures { λ _. ⌜ length (now (given .exit)) ≡ length (now (given .entry)) ⌝ }
 {
@@ -266,7 +266,7 @@ fn share_wide(row: Set, base: Set, blocks: &[u64], rows: &[u64], given: &mut [u6
 
 pub fn share(row: Set, base: Set, blocks: &[u64], rows: &[u64], given: &mut [u64], k: usize) -> Set
     requires { ⌜ (k ≤ blockCount (now blocks)) × (k ≤ rowCount (now rows)) × (k ≤ rowCount (now given)) ⌝ }
-    ensures { λ r. ⌜ Exactly (setOf r) (Matched (rowIn (now (rows .entry))) (λ j. blockAt (now (blocks .entry)) j .base) k (setOf row)) ⌝ }
+    ensures { λ r. ⌜ Exactly (setOf r) (MeetsOne (rowIn (now (rows .entry))) (λ j. blockAt (now (blocks .entry)) j .base) k (setOf row)) ⌝ }
     ensures { λ _. ⌜ Given (rowIn (now (rows .entry))) k (setOf row) (setOf base) (rowIn (now (given .entry))) (rowIn (now (given .exit))) ⌝ }
     ensures { λ _. ⌜ length (now (given .exit)) ≡ length (now (given .entry)) ⌝ }
 {

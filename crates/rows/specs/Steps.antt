@@ -46,7 +46,7 @@ pub record ClosedBack (free stops s r quit : ℕ) : Type 0 where
   pub holds : (Z E : ℕ → ℕ) (k : ℕ) → InTurn Z E k → Together Z E k free stops → Exactly r (Leads Z E k s) × Exactly quit (Lands Z E k r)
 
 -- Of k pairs of sets one meets s with its first and holds q in its second.
-pub record Matched (A B : ℕ → ℕ) (k s q : ℕ) : Type 0 where
+pub record MeetsOne (A B : ℕ → ℕ) (k s q : ℕ) : Type 0 where
   pub number : ℕ
   pub below : number < k
   pub meets : Meets s (A number)

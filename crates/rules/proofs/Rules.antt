@@ -10,27 +10,27 @@ use Rattle.plain.specs.All.All.{none, more}
 use Rattle.plain.specs.Items.{itemsOf, joinItems}
 use Rattle.plain.proofs.Items.{numbers-taken, items-length, items-sized, items-back, join-back, join-length}
 use Rattle.rules.specs.declared.Rule.{Rule}
-use Rattle.rules.specs.Rule.{ruleSize, ruleCount, ruleFrom, numbersOf, numbersOfAll, rulesOf}
+use Rattle.rules.specs.Rule.{ruleSize, ruleCount, ruleFrom, ruleNumbers, numbersOfAll, rulesOf}
 
 pub rules-length : (xs : List ℕ) → length (rulesOf xs) ≡ ruleCount xs
 unfolding rulesOf
 rules-length xs = length-map (itemsOf ruleSize (ruleCount xs) xs) ruleFrom ∙ items-length ruleSize (ruleCount xs) xs
 
-sized : (rs : List Rule) → All (λ (x : List ℕ). length x ≡ ruleSize) (map numbersOf rs)
+sized : (rs : List Rule) → All (λ (x : List ℕ). length x ≡ ruleSize) (map ruleNumbers rs)
 sized [] = none
 sized (r ∷ rs) = more refl (sized rs)
 
 pub numbers-length : (rs : List Rule) → length (numbersOfAll rs) ≡ length rs * ruleSize
 unfolding numbersOfAll
-numbers-length rs = join-length ruleSize (sized rs) ∙ ap (λ (n : ℕ). n * ruleSize) (length-map rs numbersOf)
+numbers-length rs = join-length ruleSize (sized rs) ∙ ap (λ (n : ℕ). n * ruleSize) (length-map rs ruleNumbers)
 
 pub rules-numbers : (rs : List Rule) → rulesOf (numbersOfAll rs) ≡ rs
 unfolding rulesOf numbersOfAll
 rules-numbers rs =
-    let n : ruleCount (joinItems (map numbersOf rs)) ≡ length (map numbersOf rs) = let j = join-length ruleSize (sized rs) in omega arith in
-    ap (λ (k : ℕ). map ruleFrom (itemsOf ruleSize k (joinItems (map numbersOf rs)))) n ∙ ap (map ruleFrom) (items-back ruleSize (sized rs)) ∙ each rs
+    let n : ruleCount (joinItems (map ruleNumbers rs)) ≡ length (map ruleNumbers rs) = let j = join-length ruleSize (sized rs) in omega arith in
+    ap (λ (k : ℕ). map ruleFrom (itemsOf ruleSize k (joinItems (map ruleNumbers rs)))) n ∙ ap (map ruleFrom) (items-back ruleSize (sized rs)) ∙ each rs
   where
-    each : (rs : List Rule) → map ruleFrom (map numbersOf rs) ≡ rs
+    each : (rs : List Rule) → map ruleFrom (map ruleNumbers rs) ≡ rs
     each [] = refl
     each (r ∷ rs) = ap (λ (l : List Rule). r ∷ l) (each rs)
 
@@ -39,9 +39,9 @@ pub numbers-rules : (xs : List ℕ) → length xs % ruleSize ≡ 0 → numbersOf
 unfolding rulesOf numbersOfAll
 numbers-rules xs e = ap joinItems (each (items-sized ruleSize (ruleCount xs) xs)) ∙ join-back ruleSize (ruleCount xs) xs (omega arith)
   where
-    numbers-back : (x : List ℕ) → length x ≡ ruleSize → numbersOf (ruleFrom x) ≡ x
+    numbers-back : (x : List ℕ) → length x ≡ ruleSize → ruleNumbers (ruleFrom x) ≡ x
     numbers-back x e = numbers-taken ruleSize x (omega arith) ∙ take-all ruleSize x (omega arith)
 
-    each : {l : List (List ℕ)} → All (λ (x : List ℕ). length x ≡ ruleSize) l → map numbersOf (map ruleFrom l) ≡ l
+    each : {l : List (List ℕ)} → All (λ (x : List ℕ). length x ≡ ruleSize) l → map ruleNumbers (map ruleFrom l) ≡ l
     each none = refl
     each (more e s) = ap₂ _∷_ (numbers-back _ e) (each s)

@@ -13,8 +13,8 @@ ruleSize = 4
 abbrev pub ruleWith : ℕ → ℕ → ℕ → ℕ → Rule
 ruleWith k a b c = record { kind = k; a = a; b = b; c = c }
 
-abbrev pub numbersOf : Rule → List ℕ
-numbersOf r = r .kind ∷ (r .a ∷ (r .b ∷ (r .c ∷ [])))
+abbrev pub ruleNumbers : Rule → List ℕ
+ruleNumbers r = r .kind ∷ (r .a ∷ (r .b ∷ (r .c ∷ [])))
 
 abbrev pub ruleFrom : List ℕ → Rule
 ruleFrom xs = ruleWith (getD xs 0 0) (getD xs 1 0) (getD xs 2 0) (getD xs 3 0)
@@ -28,7 +28,7 @@ ruleCount rules = itemCount ruleSize rules
 
 -- The numbers of some rules, end to end, and the rules that some numbers are.
 unfoldable pub numbersOfAll : List Rule → List ℕ
-numbersOfAll rs = joinItems (map numbersOf rs)
+numbersOfAll rs = joinItems (map ruleNumbers rs)
 
 unfoldable pub rulesOf : List ℕ → List Rule
 rulesOf xs = map ruleFrom (itemsOf ruleSize (ruleCount xs) xs)

@@ -7,6 +7,8 @@ use lib.ListN.{length, take, drop, length-append, take-append-drop}
 use lib.Seq.{take-append-seam, drop-append-seam, length-take-le}
 use Rattle.bases.specs.Base.{Holds}
 use Rattle.plain.specs.All.{All}
+use Rattle.plain.specs.All.All.{none, more}
+use Rattle.plain.proofs.All.{all-append, all-map}
 use Rattle.shapes.specs.Shape.{Block, Run, Filling, Fits, textOf, total}
 use Rattle.shapes.specs.Shape.Filling.{done, fill}
 
@@ -76,3 +78,9 @@ filling-length (fill {r = r} {f = f} run rest) =
 
 pub fits-length : {s : List Block} {t : List ℕ} → Fits s t → length t ≤ total s
 fits-length {s} h = subst (λ (t : List ℕ). length t ≤ total s) (h .joined) (filling-length (h .filling))
+
+-- a text has no character that no base holds
+pub not-in-text : {s : List Block} {f : List (List ℕ)} (c : ℕ) → All (λ (b : Block). Holds (b .base) c → ⊥) s → Filling s f → All (λ (d : ℕ). d ≡ c → ⊥) (textOf f)
+unfolding textOf
+not-in-text c none done = none
+not-in-text c (more {a = b} n ns) (fill run rest) = all-append (all-map (λ d h e. n (subst (Holds (b .base)) e h)) (run .held)) (not-in-text c ns rest)

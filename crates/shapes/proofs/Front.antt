@@ -4,13 +4,13 @@ use mathlib.Core.List.{List, _++_}
 use Prim.Native.Nat.{ℕ, _+_, _-_, _*_, _/_, _%_, _^_, _≤_, _<_}
 use native.Mathlib.Omega.{arith}
 use lib.ListN.{length, getD, take, drop, length-drop, take-append-drop}
-use lib.Seq.{ext-getD, getD-take, getD-drop, length-take-le}
+use lib.Seq.{ext-getD, getD-take, getD-drop, length-take-le, take-at}
 use Rattle.plain.proofs.All.{all-of}
 use Rattle.plain.proofs.Items.{numbers-same}
-use Rattle.shapes.specs.Shape.{noBlock, blockSize, blockCount}
-use Rattle.shapes.specs.Lent.{blockOf, blockAt, shapeOf, wordsOf}
+use Rattle.shapes.specs.Shape.{Block, noBlock, blockSize, blockCount}
+use Rattle.shapes.specs.Lent.{blockOf, blockAt, shapeOf, wordsOf, Accepted}
 use Rattle.shapes.proofs.Lent.{shape-length, shape-at}
-use Rattle.shapes.proofs.Numbers.{words-shape}
+use Rattle.shapes.proofs.Numbers.{words-shape, shape-words, words-length}
 
 module _ (xs o : List ℕ) (room : length xs ≤ length o) where
   pub front-length : length (take (length xs) o) ≡ length xs
@@ -40,3 +40,14 @@ module _ (xs o o′ : List ℕ) (whole : length xs % blockSize ≡ 0) (room : le
       rest = ext-getD 0 (drop (length xs) o′) (drop (length xs) o)
           (length-drop (length xs) o′ ∙ ap (λ (n : ℕ). n - length xs) long ∙ sym (length-drop (length xs) o))
           (λ k h. getD-drop (length xs) o′ k 0 ∙ kept (length xs + k) (omega arith) ∙ sym (getD-drop (length xs) o k 0))
+
+-- the numbers, and the shape, at the start of an output
+pub written-words : {xs : List ℕ} → Accepted xs → (S : List Block) (o o′ : List ℕ) → length S ≡ length (shapeOf xs) → o′ ≡ wordsOf S ++ o
+    → take (length xs) o′ ≡ wordsOf S
+written-words {xs} a S o o′ e f =
+    ap (take (length xs)) f
+    ∙ take-at (wordsOf S) o (length xs) (let w = words-length S in let l = shape-length xs in let whole = a .right .whole in omega arith)
+
+pub written-shape : {xs : List ℕ} → Accepted xs → (S : List Block) (o o′ : List ℕ) → length S ≡ length (shapeOf xs) → o′ ≡ wordsOf S ++ o
+    → shapeOf (take (length xs) o′) ≡ S
+written-shape a S o o′ e f = ap shapeOf (written-words a S o o′ e f) ∙ shape-words S

@@ -1,8 +1,10 @@
 -- The refusals of a shape: what the check of its blocks says of the whole, and that one input has one answer. Assumes
 -- nothing.
-use mathlib.Core.Path.{_≡_}
+use mathlib.Core.Path.{_≡_, refl, sym, ap, _∙_}
 use mathlib.Core.List.{List}
-use Prim.Native.Nat.{ℕ, _+_, _≤_}
+use mathlib.Core.Logic.{_⊎_, inl, inr}
+use Prim.Native.Nat.{ℕ, _+_, _≤_, _<_}
+use native.Mathlib.Omega.{arith}
 use lib.ListN.{length, getD}
 use Rattle.answers.specs.Told.{Told, tell}
 use Rattle.answers.specs.Turns.{here, later, inTurn, need}
@@ -52,3 +54,26 @@ pub shape-tells : (Q : Told → Type 0) {n : ℕ} {xs : List ℕ} {t : Told} →
     → ShapeRefused n xs t → Q t
 shape-tells Q one block three (here p) = need-tells Q one _ p
 shape-tells Q one block three (later r p) = blocks-tells Q block three p
+
+pub blocks-text : {n : ℕ} {s : List Block} {t : Told} → BlocksRefused n s t → t .text ≡ n
+blocks-text {n} p = blocks-tells (λ (u : Told). u .text ≡ n) (λ i. (refl, refl, refl)) refl p
+
+pub shape-text : {n : ℕ} {xs : List ℕ} {t : Told} → ShapeRefused n xs t → t .text ≡ n
+shape-text {n} p = shape-tells (λ (u : Told). u .text ≡ n) refl (λ i. (refl, refl, refl)) refl p
+
+-- a number between 3 and 10, or above 11
+abbrev pub Other : ℕ → Type 0
+Other m = (3 < m) × ((m < 10) ⊎ (11 < m))
+
+pub numbered : {t : Told} {n m a b : ℕ} → t ≡ tell n a b → t .number ≡ m → n ≡ m
+numbered e h = sym (ap (λ (u : Told). u .number) e) ∙ h
+
+apart : {n m : ℕ} → Other m → (n < 4) ⊎ ((9 < n) × (n < 12)) → n ≡ m → ⊥
+apart (a, b) (inl h) e = omega (arith, a, h, e)
+apart (a, inl l) (inr h) e = let x = h .0 in omega (arith, l, x, e)
+apart (a, inr g) (inr h) e = let x = h .1 in omega (arith, g, x, e)
+
+pub shape-other : {n m : ℕ} {xs : List ℕ} {t : Told} → Other m → ShapeRefused n xs t → t .number ≡ m → ⊥
+shape-other {m = m} o d =
+    shape-tells (λ (t : Told). t .number ≡ m → ⊥) (apart o (inl (omega arith)))
+    (λ i. (apart o (inl (omega arith)), apart o (inr (omega arith, omega arith)), apart o (inr (omega arith, omega arith)))) (apart o (inl (omega arith))) d

@@ -24,8 +24,8 @@ Numbers xs = All Word xs
 abbrev pub blockOf : List ℕ → Block
 blockOf xs = record { base = baseOf (take baseWords xs); lower = getD xs baseWords 0; upper = getD xs (baseWords + 1) 0 }
 
-abbrev pub numbersOf : Block → List ℕ
-numbersOf b = wordsIn baseWords (b .base) ++ (b .lower ∷ (b .upper ∷ []))
+abbrev pub blockNumbers : Block → List ℕ
+blockNumbers b = wordsIn baseWords (b .base) ++ (b .lower ∷ (b .upper ∷ []))
 
 -- The block that one in the code means.
 abbrev pub meant : Carried → Block
@@ -47,7 +47,7 @@ shapeOf xs = map blockOf (itemsOf blockSize (blockCount xs) xs)
 
 -- The numbers of a shape: what is lent back for it.
 unfoldable pub wordsOf : List Block → List ℕ
-wordsOf s = joinItems (map numbersOf s)
+wordsOf s = joinItems (map blockNumbers s)
 
 -- The length is right: whole blocks, some of them, not over 32.
 pub record RightLength (xs : List ℕ) : Type 0 where

@@ -8,9 +8,9 @@ use Rattle.streams.specs.declared.Input.{Input}
 use Rattle.streams.specs.declared.Input.the-variants.{Bytes, Failed}
 
 -- as many bytes as the buffer can have
-abbrev pub ReadWithin : List ℕ → Input → Type 0
-ReadWithin buffer (Bytes n) = Counts n buffer
-ReadWithin buffer Failed = Unit {0}
+abbrev pub ReadInto : List ℕ → Input → Type 0
+ReadInto buffer (Bytes n) = Counts n buffer
+ReadInto buffer Failed = Unit {0}
 
 -- one read more behind the first k bytes, which were read before: these stay, and the count goes on from k
 pub record Further (buffer : List ℕ) (k : ℕ) (buffer′ : List ℕ) (n : ℕ) : Type 0 where

@@ -5,7 +5,7 @@
 // written is in the contracts of those that call these functions.
 ghost use Prim.Native.Nat.{_≤_};
 ghost use lib.ListN.{length};
-ghost use Rattle.streams.specs.Within.{ReadWithin, ReadMore};
+ghost use Rattle.streams.specs.Within.{ReadInto, ReadMore};
 
 // What the input gave: its bytes, up to what there is room for, or a read that failed.
 pub enum Input {
@@ -15,7 +15,7 @@ pub enum Input {
 
 // Reads on until a read gives no more bytes or the buffer is full.
 pub fn read_input(buffer: &mut [u8]) -> Input
-    ensures { λ r. ⌜ ReadWithin (now (buffer .exit)) r ⌝ }
+    ensures { λ r. ⌜ ReadInto (now (buffer .exit)) r ⌝ }
 {
     let mut done = 0;
     while done < buffer.len() {
@@ -43,7 +43,7 @@ fn read_more(buffer: &mut [u8], done: usize) -> Input
 
 // One read. It gives no bytes at the end of the input.
 fn read_some(buffer: &mut [u8]) -> Input
-    ensures { λ r. ⌜ ReadWithin (now (buffer .exit)) r ⌝ }
+    ensures { λ r. ⌜ ReadInto (now (buffer .exit)) r ⌝ }
 {
     let got = libc::read(0, buffer);
     if got < 0 {

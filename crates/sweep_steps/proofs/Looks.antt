@@ -12,7 +12,7 @@ use Rattle.shapes.specs.Shape.{Block}
 use Rattle.sweep_steps.specs.Share.{pick}
 use Rattle.sweep_steps.specs.Places.{at, numberOf, offsetOf, isStart, before, later, forward, nth}
 use Rattle.sweep_steps.specs.Steps.{pushLook, pushOn, pushLooked, pushing, push, stretchLook, stretchOn, stretchLooked, stretching, stretch}
-use Rattle.sweep_steps.specs.Steps.{Held, Behind, stretchNext, stretches, Found, places, cannot, looksOf, found, looked, pushNext, pushes, firstPlace, sweepOf}
+use Rattle.sweep_steps.specs.Steps.{Held, StretchedFrom, stretchNext, stretches, Found, places, cannot, looksOf, found, looked, pushNext, pushes, firstPlace, sweepOf}
 use Rattle.sweep_steps.specs.declared.Place.{Place}
 use Rattle.sweep_steps.specs.declared.Pushed.{Pushed}
 use Rattle.sweep_steps.specs.declared.PushLook.{PushLook}
@@ -110,7 +110,7 @@ abbrev pub HeldInside : ℕ → Held → Type 0
 HeldInside m h = Inside m (h .place)
 
 -- the stretches of n blocks
-pub record Stretches (n m : ℕ) (s : Behind) : Type 0 where
+pub record Stretches (n m : ℕ) (s : StretchedFrom) : Type 0 where
   pub inside : Inside m (s .reached)
   pub held : All (HeldInside m) (s .held)
   pub many : length (s .held) ≡ n
@@ -121,7 +121,7 @@ unfolding stretches
 stretches-counted [] y = record { inside = omega arith; held = none; many = refl; counted = omega arith }
 stretches-counted (b ∷ x) y = next (stretches x y) (stretches-counted x y)
   where
-    next : (s : Behind) → Stretches (length x) (length y) s → Stretches (suc (length x)) (length y) (stretchNext b y s)
+    next : (s : StretchedFrom) → Stretches (length x) (length y) s → Stretches (suc (length x)) (length y) (stretchNext b y s)
     next s h =
         let w : Stepped (length y) (s .reached) (stretch b (reverse y) (s .reached) .end) (stretch b (reverse y) (s .reached) .looks)
         = rw (length-reverse y) at (stretch-stepped b (reverse y) (s .reached) (rw (length-reverse y) (h .inside))) in
@@ -160,7 +160,7 @@ pub looks-bounded : (x y : List Block) → looksOf (sweepOf x y) ≤ 2 * (length
 unfolding sweepOf
 looks-bounded x y = go (isStart (firstPlace (stretches x y .held)))
   where
-    s : Behind
+    s : StretchedFrom
     s = stretches x y
 
     go : (t : Bool) → looksOf (pick t (looked (s .looks) (pushes y (s .held) (at 1 0))) (cannot (s .looks))) ≤ 2 * (length x + length y)

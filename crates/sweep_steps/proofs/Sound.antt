@@ -9,7 +9,7 @@ use lib.ListN.{length, length-reverse}
 use borrow.Author.Tests.{eq-eqb}
 use Rattle.shapes.specs.Shape.{Block}
 use Rattle.sweep_steps.specs.Places.{at, numberOf, offsetOf, isStart, later, forward}
-use Rattle.sweep_steps.specs.Steps.{push, stretch, Held, Behind, stretchNext, stretches, Found, places, found, looked, pushNext, pushes, firstPlace, sweepOf}
+use Rattle.sweep_steps.specs.Steps.{push, stretch, Held, StretchedFrom, stretchNext, stretches, Found, places, found, looked, pushNext, pushes, firstPlace, sweepOf}
 use Rattle.sweep_steps.specs.declared.Place.{Place}
 use Rattle.sweep_steps.specs.declared.Pushed.{Pushed}
 use Rattle.sweep_steps.proofs.Looks.{Inside, push-stepped, stretch-stepped, forward-inside, later-is}
@@ -33,7 +33,7 @@ pub data Right (ns : List ℕ) (a : ℕ) (fs : List ℕ) : Found → Type 0 wher
   right : {qs : List Place} {l : ℕ} → Starts ns a fs qs → Right ns a fs (places qs l)
 
 -- the stretches of X's blocks from behind the first a on
-record Reached (c : ℕ → ℕ) (y : List Block) (ns : List ℕ) (a : ℕ) (fs : List ℕ) (s : Behind) : Type 0 where
+record Reached (c : ℕ → ℕ) (y : List Block) (ns : List ℕ) (a : ℕ) (fs : List ℕ) (s : StretchedFrom) : Type 0 where
   inside : Inside (length y) (s .reached)
   ended : length y < numberOf (s .reached) → offsetOf (s .reached) ≡ 0
   far : sum ns - a ≤ stand 1 0 (reverse ns) (s .reached)
@@ -50,7 +50,7 @@ module _ (c : ℕ → ℕ) (y : List Block) (ns : List ℕ) (laid : Laid c 0 y n
   stretches-reach done e = record { inside = omega arith; ended = λ _. refl; far = omega arith; placed = none; started = λ _. refl }
   stretches-reach {a} (next {n = n} {b = b} {s = x} {ns = fs} lo hi held r) e = step (stretches x y) (stretches-reach r (omega arith))
     where
-      step : (s : Behind) → Reached c y ns (a + n) fs s → Reached c y ns a (n ∷ fs) (stretchNext b y s)
+      step : (s : StretchedFrom) → Reached c y ns (a + n) fs s → Reached c y ns a (n ∷ fs) (stretchNext b y s)
       step s h =
           let m = length-reverse y in
           let total = sum-reverse ns in

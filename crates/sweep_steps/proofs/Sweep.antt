@@ -13,7 +13,7 @@ use Rattle.shapes.specs.Shape.{Block, Filling, done, fill, textOf}
 use Rattle.sweep_steps.specs.Share.{pick}
 use Rattle.sweep_steps.specs.Places.{at, isStart, later}
 use Rattle.sweep_steps.specs.Steps.{push, stretches, pushes}
-use Rattle.sweep_steps.specs.Steps.{Held, Behind, Found, places, cannot, found, looked, pushNext, firstPlace, sweepOf}
+use Rattle.sweep_steps.specs.Steps.{Held, StretchedFrom, Found, places, cannot, found, looked, pushNext, firstPlace, sweepOf}
 use Rattle.sweep_steps.specs.Names.{startOf, AtOrBefore, Latest}
 use Rattle.sweep_steps.specs.declared.Place.{Place}
 use Rattle.sweep_steps.specs.declared.Pushed.{Pushed}
@@ -123,7 +123,7 @@ pub places-many : (x y : List Block) (qs : List Place) (k : ℕ) → sweepOf x y
 unfolding sweepOf
 places-many x y qs k e = go (isStart (firstPlace (s .held))) (pushes y (s .held) (at 1 0)) refl e
   where
-    s : Behind
+    s : StretchedFrom
     s = stretches x y
 
     go : (t : Bool) (u : Found) → pushes y (s .held) (at 1 0) ≡ u → pick t (looked (s .looks) u) (cannot (s .looks)) ≡ places qs k → length qs ≡ length x

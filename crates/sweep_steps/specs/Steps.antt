@@ -81,18 +81,18 @@ pub record Held : Type 0 where
 
 -- the blocks of X from some one on, stretched: the end reached, in the reversed Y, each block with its place, and the
 -- looks made
-pub record Behind : Type 0 where
+pub record StretchedFrom : Type 0 where
   pub reached : Place
   pub held : List Held
   pub looks : ℕ
 
-abbrev pub stretchNext : Block → List Block → Behind → Behind
+abbrev pub stretchNext : Block → List Block → StretchedFrom → StretchedFrom
 stretchNext b y s =
     let r = stretch b (reverse y) (s .reached) in
     record { reached = r .end; held = record { block = b; place = forward y (r .end) } ∷ s .held; looks = s .looks + r .looks }
 
 -- With Y reversed, stretch X's last block from (1, 0), each earlier block from the end before it.
-unfoldable pub stretches : List Block → List Block → Behind
+unfoldable pub stretches : List Block → List Block → StretchedFrom
 stretches [] y = record { reached = at 1 0; held = []; looks = 0 }
 stretches (b ∷ x) y = stretchNext b y (stretches x y)
 

@@ -1,6 +1,7 @@
 -- The record of a pair: one refusal, one record, and that of the single call. Assumes nothing.
 use mathlib.Core.Path.{_≡_, refl, sym, ap, _∙_, subst}
 use mathlib.Core.List.{List, []}
+use mathlib.Core.Logic.{inr}
 use Prim.Native.Nat.{ℕ, _+_, _*_, _≤_}
 use native.Mathlib.Omega.{arith}
 use lib.ListN.{length}
@@ -17,14 +18,15 @@ use Rattle.answers.proofs.Turns.{OneOf, need-one, in-turn-one, lacks}
 use Rattle.shapes.specs.Shape.{Fits, blockCount}
 use Rattle.shapes.specs.Lent.{shapeOf}
 use Rattle.pairs.specs.Pair.{PairAccepted, PairRefused}
-use Rattle.shapes.proofs.Refused.{of-shape}
+use Rattle.shapes.proofs.Refused.{of-shape, Other, numbered}
+use Rattle.pairs.proofs.Pair.{pair-other}
 use Rattle.sweep_steps.specs.Steps.{Found, places, cannot, looksOf, sweepOf}
 use Rattle.sweep_steps.proofs.Looks.{looks-bounded}
 use Rattle.sweep_passes.specs.Read.{sweptOf}
 use Rattle.sweeps.proofs.Meaning.{means}
 use Rattle.sweeps.proofs.Whole.{not-refused}
 use Rattle.sweep_calls.specs.Sweep.{SweepRefused, SweepPromise}
-use Rattle.tray_pairs.specs.Ranges.{Inside, lentIn}
+use Rattle.tray_pairs.specs.Ranges.{RangeInside, lentIn}
 use Rattle.tray_pairs.specs.Code.{SweptAlone}
 use Rattle.tray_pairs.specs.Judged.{recorded, recordTurns, RecordRefused, RecordAccepted, Judged}
 use Rattle.tray_pairs.specs.Judged.Judged.{swept, refused}
@@ -81,6 +83,17 @@ module _ (blocks : List ℕ) (p : Pair) where
   pub record-refused-not : {t : Told} → RecordRefused blocks p t → RecordAccepted blocks p → ⊥
   record-refused-not d a = of-record .not d a
 
+  -- the numbers that a refused record may tell: the whole call's are none of them
+  pub never : (m : ℕ) → Other m → (14 ≡ m → ⊥) → (t : Told) → RecordRefused blocks p t → t .number ≡ m → ⊥
+  never m o f t (here d) n = f (numbered (d .tells) n)
+  never m o f t (later i (here d)) n = f (numbered (d .tells) n)
+  never m o f t (later i (later j d)) n = pair-other o d n
+
+  pub fourteen-only : (t : Told) → RecordRefused blocks p t → t .number ≡ 14 → RangeInside (blockCount blocks) (p .x) → RangeInside (blockCount blocks) (p .y) → ⊥
+  fourteen-only t (here d) n i j = d .lacking i
+  fourteen-only t (later _ (here d)) n i j = d .lacking j
+  fourteen-only t (later _ (later _ d)) n i j = pair-other (omega arith, inr (omega arith)) d n
+
   -- a refused record: its refusal is the one that is due
   pub record-refused : (q : Refusal) → Judged blocks p (recorded (Refused q)) → RecordRefused blocks p (told q)
   record-refused q (swept a e) = absurd (not-found q (sweepOf (shapeOf (lentIn blocks (p .x))) (shapeOf (lentIn blocks (p .y)))) (ap (λ (r : AnswerRecord). r .verdict) e))
@@ -115,18 +128,18 @@ module _ (blocks : List ℕ) (p : Pair) where
   judged-one (refused q d e) (refused u c f) = e ∙ ap (λ (v : Refusal). recorded (Refused v)) (told-one q u (record-refused-one d c)) ∙ sym f
 
   -- the ranges are inside: the answer is the sweep's
-  pub inside-judged : Inside (blockCount blocks) (p .x) → Inside (blockCount blocks) (p .y) → (s : Swept) → SweptAlone (lentIn blocks (p .x)) (lentIn blocks (p .y)) s → Judged blocks p (recorded s)
+  pub inside-judged : RangeInside (blockCount blocks) (p .x) → RangeInside (blockCount blocks) (p .y) → (s : Swept) → SweptAlone (lentIn blocks (p .x)) (lentIn blocks (p .y)) s → Judged blocks p (recorded s)
   inside-judged i j (Places k) d = swept (record { first = i; second = j; shapes = d .0 }) (ap recorded (d .1))
   inside-judged i j (Cannot k) d = swept (record { first = i; second = j; shapes = d .0 }) (ap recorded (d .1))
   inside-judged i j (Refused q) d = refused q (later i (later j d)) refl
 
-  pub first-outside : (Inside (blockCount blocks) (p .x) → ⊥) → Judged blocks p (recorded (Refused (Range 1)))
+  pub first-outside : (RangeInside (blockCount blocks) (p .x) → ⊥) → Judged blocks p (recorded (Refused (Range 1)))
   first-outside o = refused (Range 1) (here (lacks o)) refl
 
-  pub second-outside : Inside (blockCount blocks) (p .x) → (Inside (blockCount blocks) (p .y) → ⊥) → Judged blocks p (recorded (Refused (Range 2)))
+  pub second-outside : RangeInside (blockCount blocks) (p .x) → (RangeInside (blockCount blocks) (p .y) → ⊥) → Judged blocks p (recorded (Refused (Range 2)))
   second-outside i o = refused (Range 2) (later i (here (lacks o))) refl
 
   -- equal to what a single call gives
-  pub as-single : (out out′ : List ℕ) (r : AnswerRecord) (s : Swept) → Inside (blockCount blocks) (p .x) → Inside (blockCount blocks) (p .y) → 2 * length (shapeOf (lentIn blocks (p .x))) ≤ length out
+  pub as-single : (out out′ : List ℕ) (r : AnswerRecord) (s : Swept) → RangeInside (blockCount blocks) (p .x) → RangeInside (blockCount blocks) (p .y) → 2 * length (shapeOf (lentIn blocks (p .x))) ≤ length out
       → SweepPromise (lentIn blocks (p .x)) (lentIn blocks (p .y)) out out′ s → Judged blocks p r → r ≡ recorded s
   as-single out out′ r s i j h d e = judged-one e (inside-judged i j s (alone (lentIn blocks (p .x)) (lentIn blocks (p .y)) out out′ s h d))

@@ -15,7 +15,7 @@ use Rattle.shapes.specs.Lent.{shapeOf}
 use Rattle.pairs.specs.Pair.{PairAccepted, pairTurns}
 use Rattle.sweep_steps.specs.Steps.{sweepOf}
 use Rattle.sweep_passes.specs.Read.{sweptOf}
-use Rattle.tray_pairs.specs.Ranges.{Inside, lentIn}
+use Rattle.tray_pairs.specs.Ranges.{RangeInside, lentIn}
 use Rattle.tray_pairs.specs.declared.Pair.{Pair}
 
 -- An answer of the quick sweep as a record. "A refused record has 0 looks."
@@ -28,7 +28,7 @@ recorded (Refused q) = record { verdict = SweepVerdict.Refused q; looks = 0 }
 -- as text and place 0"; then those of the shapes.
 abbrev pub recordTurns : List ℕ → Pair → List Turn
 recordTurns blocks p =
-    need (Inside (blockCount blocks) (p .x)) (tell 14 1 0) ∷ need (Inside (blockCount blocks) (p .y)) (tell 14 2 0)
+    need (RangeInside (blockCount blocks) (p .x)) (tell 14 1 0) ∷ need (RangeInside (blockCount blocks) (p .y)) (tell 14 2 0)
     ∷ pairTurns (lentIn blocks (p .x)) (lentIn blocks (p .y))
 
 abbrev pub RecordRefused : List ℕ → Pair → Told → Type 0
@@ -36,8 +36,8 @@ RecordRefused blocks p = FirstDue (recordTurns blocks p)
 
 -- both ranges are inside, and what they hold are shapes
 pub record RecordAccepted (blocks : List ℕ) (p : Pair) : Type 0 where
-  pub first : Inside (blockCount blocks) (p .x)
-  pub second : Inside (blockCount blocks) (p .y)
+  pub first : RangeInside (blockCount blocks) (p .x)
+  pub second : RangeInside (blockCount blocks) (p .y)
   pub shapes : PairAccepted (lentIn blocks (p .x)) (lentIn blocks (p .y))
 
 -- the record of a pair: what the steps find, or the refusal that is due

@@ -26,7 +26,7 @@ abbrev pub pairAt : List ℕ → ℕ → Pair
 pairAt pairs i = pairFrom (itemAt pairSize pairs i)
 
 -- It does not end before it starts, nor reach past the n whole blocks lent.
-pub record Inside (n : ℕ) (r : Range) : Type 0 where
+pub record RangeInside (n : ℕ) (r : Range) : Type 0 where
   pub forward : r .first ≤ r .past
   pub within : r .past ≤ n
 

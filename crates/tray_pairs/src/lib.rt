@@ -9,7 +9,7 @@ ghost use Prim.Native.Nat.{_<_};
 ghost use Rattle.plain.specs.Tells.{Tells};
 ghost use Rattle.tray_pairs.specs.Code.{SweptAlone};
 ghost use Rattle.tray_pairs.specs.Judged.{recorded, Judged};
-ghost use Rattle.tray_pairs.specs.Ranges.{pairCount, pairAt, Inside};
+ghost use Rattle.tray_pairs.specs.Ranges.{pairCount, pairAt, RangeInside};
 
 // The numbers of a pair. It is not the size of a block.
 pub const SIZE: usize = 4;
@@ -46,7 +46,7 @@ fn pair_at(pairs: &[u64], i: usize) -> Pair
 
 // Whether a range is inside n blocks. Its numbers may be any.
 fn inside(n: usize, r: Range) -> bool
-    ensures { λ b. ⌜ Tells b (Inside n r) ⌝ }
+    ensures { λ b. ⌜ Tells b (RangeInside n r) ⌝ }
 {
     if r.past < r.first {
         return false;

@@ -1,11 +1,11 @@
 -- One input has one refusal, and none where it is accepted; one answer, and one row. Assumes nothing.
 use mathlib.Core.Path.{_≡_, refl, sym, ap, _∙_, subst}
 use mathlib.Core.List.{List}
-use mathlib.Core.Logic.{_⊎_, inl, inr}
-use Prim.Native.Nat.{ℕ, _+_, _-_, _≤_, _<_}
-use Rattle.plain.proofs.Plain.{lt-or-le}
+use mathlib.Core.Logic.{_⊎_, inl, inr, _↔_}
+use Prim.Native.Nat.{ℕ, _+_, _-_, _*_, _/_, _%_, _≤_, _<_}
+use Rattle.plain.proofs.Plain.{lt-or-le, eq-or-ne}
 use native.Mathlib.Omega.{arith}
-use lib.ListN.{getD}
+use lib.ListN.{length, getD}
 use lib.Seq.{getD-drop, ext-getD}
 use Rattle.answers.specs.Told.{Told}
 use Rattle.answers.specs.Turns.{inTurn}
@@ -15,9 +15,9 @@ use Rattle.answers.specs.declared.Tray.{Tray}
 use Rattle.answers.specs.declared.Tray.the-variants.{Judged as is-judged, Refused}
 use Rattle.answers.proofs.Told.{told-one}
 use Rattle.answers.proofs.Turns.{OneOf, need-one, in-turn-one}
-use Rattle.tray_pairs.specs.Ranges.{pairAt}
+use Rattle.tray_pairs.specs.Ranges.{pairSize, pairAt}
 use Rattle.tray_pairs.proofs.Judged.{judged-one}
-use Rattle.trays.specs.Tray.{trayTurns, TrayRefused, TrayAccepted, Filled, TrayPromise}
+use Rattle.trays.specs.Tray.{RightList, trayTurns, TrayRefused, TrayAccepted, Filled, TrayPromise}
 
 module _ {listed room : ℕ} where
   of-tray : OneOf (inTurn (TrayAccepted listed room) (trayTurns listed room))
@@ -28,6 +28,27 @@ module _ {listed room : ℕ} where
 
   pub tray-refused-not : {t : Told} → TrayRefused listed room t → TrayAccepted listed room → ⊥
   tray-refused-not p a = of-tray .not p a
+
+-- a list is wrong if its numbers are no whole pairs or more than 64
+pub wrong-list : (listed : ℕ) → (RightList listed → ⊥) ↔ ((listed % pairSize ≡ 0 → ⊥) ⊎ (64 < listed / pairSize))
+wrong-list listed = ((λ w. to w (eq-or-ne (listed % pairSize) 0) (lt-or-le 64 (listed / pairSize))), from)
+  where
+    to : (RightList listed → ⊥) → (listed % pairSize ≡ 0) ⊎ (listed % pairSize ≡ 0 → ⊥) → (64 < listed / pairSize) ⊎ (listed / pairSize ≤ 64)
+        → (listed % pairSize ≡ 0 → ⊥) ⊎ (64 < listed / pairSize)
+    to w (inr n) _ = inl n
+    to w (inl e) (inl l) = inr l
+    to w (inl e) (inr f) = absurd (w (record { whole = e; few = f }))
+
+    from : (listed % pairSize ≡ 0 → ⊥) ⊎ (64 < listed / pairSize) → RightList listed → ⊥
+    from (inl n) l = n (l .whole)
+    from (inr h) l = let f = l .few in omega arith
+
+-- up to 64 pairs with a record each are judged
+pub up-to-64 : (blocks pairs : List ℕ) (row row′ : List AnswerRecord) (r : Tray) (n : ℕ) → n ≤ 64 → length pairs ≡ n * pairSize → n ≤ length row
+    → TrayPromise blocks pairs row row′ r → r ≡ is-judged
+up-to-64 blocks pairs row row′ is-judged n few long room p = refl
+up-to-64 blocks pairs row row′ (Refused q) n few long room p =
+    absurd (tray-refused-not (p .0) (record { list = record { whole = omega (arith, long); few = omega (arith, long) }; row = omega (arith, long) }))
 
 -- two rows filled from one
 module _ {blocks pairs : List ℕ} {n : ℕ} {row row′ row″ : List AnswerRecord} (f : Filled blocks pairs n row row′) (g : Filled blocks pairs n row row″) where

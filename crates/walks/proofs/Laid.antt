@@ -14,21 +14,21 @@ use Rattle.bases.proofs.Laws.{none-in-zero}
 use Rattle.plain.proofs.Plain.{lt-or-le}
 use Rattle.plain.specs.All.{All, more}
 use Rattle.shapes.specs.Shape.{Block, total}
-use Rattle.walks.specs.Walk.{lessen, past, pick, slotAt, Walk, here, skip, step, Bounded}
+use Rattle.walks.specs.Walk.{lessen, past, pickBlock, slotAt, Walk, here, skip, step, Bounded}
 use Rattle.walks.proofs.Walks.{walk-from, walk-to, walk-append, forwards}
 
 -- ---- the slots of a shape
 
 pub slot-here : (b : Block) (s : List Block) (k : ℕ) → k < b .upper → slotAt (b ∷ s) k ≡ lessen b k
-unfolding slotAt pick
-slot-here b s k h = ap (λ (x : Bool). pick x (lessen b k) (slotAt s (k - b .upper))) (lt-ltb k (b .upper) h)
+unfolding slotAt pickBlock
+slot-here b s k h = ap (λ (x : Bool). pickBlock x (lessen b k) (slotAt s (k - b .upper))) (lt-ltb k (b .upper) h)
 
 pub slot-after : (b : Block) (s : List Block) (k : ℕ) → slotAt (b ∷ s) (b .upper + k) ≡ slotAt s k
-unfolding slotAt pick
+unfolding slotAt pickBlock
 slot-after b s k =
     let past-it : ltb (b .upper + k) (b .upper) ≡ false = le-ltb (b .upper + k) (b .upper) (omega arith) in
     let back : b .upper + k - b .upper ≡ k = omega arith in
-    ap (λ (x : Bool). pick x (lessen b (b .upper + k)) (slotAt s (b .upper + k - b .upper))) past-it ∙ ap (slotAt s) back
+    ap (λ (x : Bool). pickBlock x (lessen b (b .upper + k)) (slotAt s (b .upper + k - b .upper))) past-it ∙ ap (slotAt s) back
 
 -- the block b has its slots from position p on
 pub record Has (X : ℕ → Block) (p : ℕ) (b : Block) : Type 0 where

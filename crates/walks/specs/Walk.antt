@@ -17,14 +17,14 @@ lessen b k = record { base = b .base; lower = b .lower - k; upper = b .upper - k
 abbrev pub past : Block
 past = record { base = 0; lower = 1; upper = 0 }
 
-unfoldable pub pick : Bool → Block → Block → Block
-pick true a b = a
-pick false a b = b
+unfoldable pub pickBlock : Bool → Block → Block → Block
+pickBlock true a b = a
+pickBlock false a b = b
 
 -- What is allowed at position i.
 unfoldable pub slotAt : List Block → ℕ → Block
 slotAt [] i = past
-slotAt (b ∷ s) i = pick (ltb i (b .upper)) (lessen b i) (slotAt s (i - b .upper))
+slotAt (b ∷ s) i = pickBlock (ltb i (b .upper)) (lessen b i) (slotAt s (i - b .upper))
 
 -- From position p the text is read, and the position is then q: the run may end where nothing more is asked of it, or a
 -- character is taken. X says what is allowed at each position.

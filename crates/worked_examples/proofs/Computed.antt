@@ -5,15 +5,15 @@ use mathlib.Core.List.{List, _++_}
 use lib.ListN.{length}
 use Rattle.shapes.specs.Shape.{Block, total}
 use Rattle.hulls.specs.Hull.{Pairs, Outcome, NarrowsTo}
-use Rattle.walks.specs.Walk.{slotAt, pick, Same}
-use Rattle.equal_reckoning.specs.Equal.{or, and, at, meet, listed, finish, cellBefore, lastCells, rowBefore, lastRows, fromIf, froms, anyIn, reach, cellAfter, firstCells, rowAfter, firstRows, sign, signs, tableOf, cellOf, joins, add, othersAt, othersWithin, some, hasLength, if, firstFrom, lastTo, blockTold, blocksOf, outcome, fromTable, equalHull}
+use Rattle.walks.specs.Walk.{slotAt, pickBlock, Same}
+use Rattle.equal_reckoning.specs.Equal.{or, and, at, meet, listed, finish, cellBefore, lastCells, rowBefore, lastRows, fromIf, froms, anyIn, reach, cellAfter, firstCells, rowAfter, firstRows, sign, signs, tableOf, cellOf, joins, add, othersAt, othersWithin, some, hasLength, if, firstFrom, lastTo, blockTold, blocksTold, outcome, fromTable, equalHull}
 use Rattle.equal_reckoning.proofs.Exact.{equal-exact}
 use Rattle.worked_examples.specs.Letters.{NarrowedTo}
 use Rattle.worked_examples.proofs.Soundness.{all-sound, all-sound-by}
 
 -- the function, with all that it computes by opened
 unfoldable pub reckoned : List Block → List Block → Outcome
-unfolding total slotAt pick or and at meet listed finish cellBefore lastCells rowBefore lastRows fromIf froms anyIn reach cellAfter firstCells rowAfter firstRows sign signs tableOf cellOf joins add othersAt othersWithin some hasLength if firstFrom lastTo blockTold blocksOf outcome fromTable equalHull
+unfolding total slotAt pickBlock or and at meet listed finish cellBefore lastCells rowBefore lastRows fromIf froms anyIn reach cellAfter firstCells rowAfter firstRows sign signs tableOf cellOf joins add othersAt othersWithin some hasLength if firstFrom lastTo blockTold blocksTold outcome fromTable equalHull
 reckoned X Y = equalHull X Y
 
 -- what it computes of sound blocks is the outcome

@@ -7,7 +7,7 @@ use lib.ListN.{length}
 use Rattle.sets.specs.Set.{setOf}
 use Rattle.shapes.specs.Lent.{meant}
 use Rattle.rows.specs.Row.{rowIn, tableSize}
-use Rattle.common_blocks.specs.Rows.{Whenever, RowsAfter}
+use Rattle.common_blocks.specs.Rows.{WheneverRoomy, RowsAfter}
 use Rattle.common_blocks.proofs.Rows.{KeptFrom, rows-start, rows-more, rows-end, after-none, after-more}
 use borrow.Author.Needs.{needs}
 use Rattle.common_blocks.proofs.back_block.Statement.{statement}
@@ -15,7 +15,7 @@ use Rattle.common_blocks.proofs.back_block.Tie as tie
 
 abbrev Inv-loop : tie.InvT-loop
 Inv-loop zones ends k spans runs mine b p s rows₀ row₀ o₀ rows row o =
-    (o ≤ b .upper) × RowsAfter (p + b .upper) rows₀ rows × Whenever (rowIn zones) (rowIn ends) k (setOf mine) p (meant b) (KeptFrom (setOf s) rows o p (meant b) (setOf row))
+    (o ≤ b .upper) × RowsAfter (p + b .upper) rows₀ rows × WheneverRoomy (rowIn zones) (rowIn ends) k (setOf mine) p (meant b) (KeptFrom (setOf s) rows o p (meant b) (setOf row))
 
 abbrev μ-loop : tie.MeasureT-loop
 μ-loop zones ends k spans runs mine b p s rows₀ row₀ o₀ rows row o = o

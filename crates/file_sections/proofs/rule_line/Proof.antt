@@ -4,7 +4,7 @@ use native.Mathlib.Numerals.{towards-suc}
 use native.Mathlib.Omega.{arith}
 use lib.ListN.{length-set}
 use Rattle.plain.proofs.Items.{put-item}
-use Rattle.rules.specs.Rule.{ruleSize, numbersOf}
+use Rattle.rules.specs.Rule.{ruleSize, ruleNumbers}
 use Rattle.file_lines.specs.Lines.{RuleRead}
 use borrow.Author.Needs.{needs}
 use Rattle.file_sections.proofs.rule_line.Statement.{statement}
@@ -66,7 +66,7 @@ returns-2 c =
     let a = c .before .before .before .before .before .before .args in
     let r = c .before .r .given .0 .0 in
     let read = subst (RuleRead _) (c .before .r .given .1) (c .before .before .before .read-rule .ensures) in
-    record { item = r; says = (read .0, read .1); stored = simp towards-suc (put-item ruleSize (a .out .now) (a .i) (numbersOf r) refl (c .before .before .before .before .before .before .pre)) }
+    record { item = r; says = (read .0, read .1); stored = simp towards-suc (put-item ruleSize (a .out .now) (a .i) (ruleNumbers r) refl (c .before .before .before .before .before .before .pre)) }
 
 pub rule-line-spec : {M : Type 1} → statement M
 rule-line-spec =

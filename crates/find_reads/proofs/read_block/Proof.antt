@@ -13,7 +13,7 @@ use Rattle.shapes.specs.Lent.{meant}
 use Rattle.rows.specs.Row.{rowIn}
 use Rattle.find_texts.specs.Reading.{ReadWithin, ReadTo}
 use Rattle.find_borders.specs.Borders.{ShortMark}
-use Rattle.find_ways.specs.Ways.{Falls, WaysOf}
+use Rattle.find_ways.specs.Ways.{FallWords, WaysOf}
 use Rattle.find_rows.specs.Says.{RowsSay, HitsSay, LiveIn, Arrived, Underway}
 use Rattle.find_reads.specs.Reads.{Heard}
 use Rattle.find_reads.proofs.Say.{says-more, hits-more, block-start, hits-start, block-end, block-hits}
@@ -31,7 +31,7 @@ whole rows e = record { before = λ l. e; left = λ q l. refl }
 
 abbrev Inv-loop : tie.InvT-loop
 Inv-loop mark falls ways rows₀ m lower upper live₀ hits₀ o₀ rows live hits o =
-    (o ≤ upper) × (m ≡ length mark) × ShortMark mark × Exactly live (LiveIn mark rows) × Falls mark (length mark) falls × WaysOf mark ways
+    (o ≤ upper) × (m ≡ length mark) × ShortMark mark × Exactly live (LiveIn mark rows) × FallWords mark (length mark) falls × WaysOf mark ways
     × ((s : List Block) → total s + upper ≤ 250 → Heard mark s rows₀ (setOf hits₀) → ReadSome mark s (setOf (ways .base)) lower o rows (setOf hits))
 
 abbrev μ-loop : tie.MeasureT-loop

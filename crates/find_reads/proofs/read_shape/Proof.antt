@@ -12,7 +12,7 @@ use Rattle.shapes.proofs.Lent.{block-sound}
 use Rattle.rows.proofs.Rows.{blank-row}
 use Rattle.row_lay.proofs.Laid.{upper-within}
 use Rattle.find_borders.specs.Borders.{ShortMark}
-use Rattle.find_ways.specs.Ways.{Falls, Seen}
+use Rattle.find_ways.specs.Ways.{FallWords, ContinuedRows}
 use Rattle.find_rows.specs.Says.{LiveIn}
 use Rattle.find_reads.specs.Reads.{Heard}
 use Rattle.find_reads.proofs.Blocks.{take-more, take-whole}
@@ -22,7 +22,7 @@ use Rattle.find_reads.proofs.read_shape.Tie as tie
 
 abbrev Inv-loop : tie.InvT-loop
 Inv-loop mark shape falls seen rows₀ n search₀ i₀ rows search i =
-    (n ≡ blockCount shape) × (i ≤ n) × ShortMark mark × Accepted shape × Falls mark (length mark) falls × Seen mark (length mark) seen
+    (n ≡ blockCount shape) × (i ≤ n) × ShortMark mark × Accepted shape × FallWords mark (length mark) falls × ContinuedRows mark (length mark) seen
     × Exactly (search .live) (LiveIn mark rows) × Heard mark (take i (shapeOf shape)) rows (setOf (search .hits))
 
 abbrev μ-loop : tie.MeasureT-loop

@@ -8,7 +8,7 @@ use borrow.Author.Tests.{not-true, not-false}
 use lib.ListN.{length}
 use Rattle.sets.specs.Set.{setOf, Exactly}
 use Rattle.find_borders.specs.Borders.{ShortMark}
-use Rattle.find_ways.specs.Ways.{Falls, WaysOf}
+use Rattle.find_ways.specs.Ways.{FallWords, WaysOf}
 use Rattle.find_rows.specs.Says.{LiveIn}
 use Rattle.find_rows.proofs.Turns.{Stepping, step-none, step-more, step-moved, step-live, not-empty-some, empty-none}
 use Rattle.find_rows.proofs.step.Statement.{statement}
@@ -16,7 +16,7 @@ use Rattle.find_rows.proofs.step.Tie as tie
 
 abbrev Inv-loop : tie.InvT-loop
 Inv-loop mark falls ways rows₀ live keep end last₀ next₀ t₀ rows last next t =
-    (t ≤ end) × (end ≤ length mark) × ShortMark mark × Exactly live (LiveIn mark rows₀) × Falls mark (length mark) falls × WaysOf mark ways
+    (t ≤ end) × (end ≤ length mark) × ShortMark mark × Exactly live (LiveIn mark rows₀) × FallWords mark (length mark) falls × WaysOf mark ways
     × Stepping mark (setOf (ways .base)) keep rows₀ t rows (setOf last) next
 
 abbrev μ-loop : tie.MeasureT-loop

@@ -10,13 +10,13 @@ use Rattle.sets.specs.Set.{Exactly}
 use Rattle.sets.proofs.Exact.{exactly-at}
 use Rattle.find_borders.specs.Borders.{ShortMark, SameAt, Borders}
 use Rattle.find_borders.proofs.Collect.{words-more}
-use Rattle.find_ways.specs.Ways.{FallAt, Falls}
+use Rattle.find_ways.specs.Ways.{FallAt, FallWords}
 use Rattle.find_ways.proofs.lay_falls.Statement.{statement}
 use Rattle.find_ways.proofs.lay_falls.Tie as tie
 
 abbrev Inv-loop : tie.InvT-loop
 Inv-loop mark borders words₀ r₀ words r =
-    (r ≤ length mark) × ShortMark mark × (length words ≡ 64) × Borders mark (length mark) borders × Falls mark r words
+    (r ≤ length mark) × ShortMark mark × (length words ≡ 64) × Borders mark (length mark) borders × FallWords mark r words
     × ((i : ℕ) → r ≤ i → i < length mark → Exactly (getD words i 0) (SameAt mark (getD mark i 0)))
 
 abbrev μ-loop : tie.MeasureT-loop
@@ -68,7 +68,7 @@ returns c =
     let l = c .before .loop in
     let mark = c .before .before .before .args .mark .now in
     let e : l .r ≡ length mark = omega arith in
-    subst (λ (k : ℕ). Falls mark k (l .words)) e (l .inv .4)
+    subst (λ (k : ℕ). FallWords mark k (l .words)) e (l .inv .4)
 
 pub lay-falls-spec : {M : Type 1} → statement M
 lay-falls-spec =

@@ -7,12 +7,12 @@ use lib.ListN.{length}
 use Rattle.sets.specs.Set.{Exactly}
 use Rattle.rows.proofs.Rows.{rows-more}
 use Rattle.find_borders.specs.Borders.{ShortMark, Borders}
-use Rattle.find_ways.specs.Ways.{Continued, Seen}
+use Rattle.find_ways.specs.Ways.{Continued, ContinuedRows}
 use Rattle.find_ways.proofs.lay_seen.Statement.{statement}
 use Rattle.find_ways.proofs.lay_seen.Tie as tie
 
 abbrev Inv-loop : tie.InvT-loop
-Inv-loop mark borders seen₀ q₀ seen q = (q ≤ length mark) × ShortMark mark × Borders mark (length mark) borders × Seen mark q seen
+Inv-loop mark borders seen₀ q₀ seen q = (q ≤ length mark) × ShortMark mark × Borders mark (length mark) borders × ContinuedRows mark q seen
 
 abbrev μ-loop : tie.MeasureT-loop
 μ-loop mark borders seen₀ q₀ seen q = length mark - q
@@ -52,7 +52,7 @@ returns c =
     let l = c .before .loop in
     let mark = c .before .before .before .args .mark .now in
     let e : l .q ≡ length mark = omega arith in
-    subst (λ (k : ℕ). Seen mark k (l .seen)) e (l .inv .3)
+    subst (λ (k : ℕ). ContinuedRows mark k (l .seen)) e (l .inv .3)
 
 pub lay-seen-spec : {M : Type 1} → statement M
 lay-seen-spec =

@@ -5,16 +5,16 @@ use Prim.Native.Nat.{_-_, _≤_, _<_}
 use lib.ListN.{length}
 use Rattle.sets.specs.Set.{setOf, Exactly}
 use Rattle.sets.proofs.Exact.{exactly-at}
-use Rattle.find_texts.specs.Match.{Goes}
+use Rattle.find_texts.specs.Match.{StateGoes}
 use Rattle.find_borders.specs.Borders.{ShortMark}
-use Rattle.find_ways.specs.Ways.{Seen}
+use Rattle.find_ways.specs.Ways.{ContinuedRows}
 use Rattle.find_borders.proofs.Collect.{collect-none, collect-more, collect-end, tells-as}
 use Rattle.find_ways.proofs.Leads.{outside-goes, goes-outside}
 use Rattle.find_ways.proofs.resets.Statement.{statement}
 use Rattle.find_ways.proofs.resets.Tie as tie
 
 abbrev Inv-loop : tie.InvT-loop
-Inv-loop mark seen base w₀ q₀ w q = (q ≤ length mark) × ShortMark mark × Seen mark (length mark) seen × Exactly w (λ e. (e < q) × Goes mark (setOf base) e 0)
+Inv-loop mark seen base w₀ q₀ w q = (q ≤ length mark) × ShortMark mark × ContinuedRows mark (length mark) seen × Exactly w (λ e. (e < q) × StateGoes mark (setOf base) e 0)
 
 abbrev μ-loop : tie.MeasureT-loop
 μ-loop mark seen base w₀ q₀ w q = length mark - q

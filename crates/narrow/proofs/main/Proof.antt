@@ -1,7 +1,7 @@
 -- `narrow::main` is safe: what was read is within the buffer.
 use borrow.Author.Needs.{needs}
 use mathlib.Core.Path.{subst}
-use Rattle.streams.specs.Within.{ReadWithin}
+use Rattle.streams.specs.Within.{ReadInto}
 use Rattle.narrow.proofs.main.Statement.{statement}
 use Rattle.narrow.proofs.main.Tie as tie
 
@@ -15,10 +15,10 @@ enum-known-n : tie.Need-enum-known-n
 enum-known-n c = search needs
 
 array-share-prefix-file : tie.Need-array-share-prefix-file
-array-share-prefix-file c = subst (ReadWithin _) (c .before .n .given .1) (c .before .before .before .before .read-input .ensures) .0
+array-share-prefix-file c = subst (ReadInto _) (c .before .n .given .1) (c .before .before .before .before .read-input .ensures) .0
 
 slice-aggregate-answer : tie.Need-slice-aggregate-answer
-slice-aggregate-answer c = subst (ReadWithin _) (c .before .before .n .given .1) (c .before .before .before .before .before .read-input .ensures) .1
+slice-aggregate-answer c = subst (ReadInto _) (c .before .before .n .given .1) (c .before .before .before .before .before .read-input .ensures) .1
 
 answer-requires : tie.Need-answer-requires
 answer-requires c κs = search needs

@@ -7,7 +7,7 @@ use mathlib.Core.Path.{sym, subst, _∙_}
 use native.Mathlib.Omega.{arith}
 use lib.ListN.{length}
 use lib.Seq.{length-take-le}
-use Rattle.streams.specs.Within.{ReadWithin}
+use Rattle.streams.specs.Within.{ReadInto}
 use Rattle.streams.proofs.read_more.Statement.{statement}
 use Rattle.streams.proofs.read_more.Tie as tie
 
@@ -44,7 +44,7 @@ room c =
     let a = q .before .before .before .args in
     let within = q .before .before .before .pre in
     let part = q .read-some .kept .0 ∙ mid-len {X = ℕ} (a .done) (length (a .buffer .now)) (a .buffer .now) (omega arith) in
-    let few = subst (ReadWithin _) (c .before .more .given .1) (q .read-some .ensures) .0 in
+    let few = subst (ReadInto _) (c .before .more .given .1) (q .read-some .ensures) .0 in
     omega arith
 
 add-t6 : tie.Need-add-t6

@@ -7,7 +7,7 @@ use lib.ListN.{take, drop}
 use borrow.Author.Needs.{needs}
 use Rattle.shapes.specs.Shape.{blockCount, blockSize}
 use Rattle.tray_pairs.specs.Code.{SweptAlone}
-use Rattle.tray_pairs.specs.Ranges.{Inside, lentIn}
+use Rattle.tray_pairs.specs.Ranges.{RangeInside, lentIn}
 use Rattle.tray_pairs.specs.declared.Pair.{Pair}
 use Rattle.tray_pairs.specs.declared.Range.{Range}
 use Rattle.tray_pairs.proofs.Judged.{inside-judged, first-outside, second-outside}
@@ -34,10 +34,10 @@ module _ (c : tie.Then2) where
   abbrev pair : Pair
   pair = c .before .before .before .before .before .before .before .args .p
 
-  first : Inside (blockCount blocks) (pair .x)
+  first : RangeInside (blockCount blocks) (pair .x)
   first = c .before .before .before .inside .ensures .so (c .before .before .if1 .taken)
 
-  second : Inside (blockCount blocks) (pair .y)
+  second : RangeInside (blockCount blocks) (pair .y)
   second = c .before .inside2 .ensures .so (c .if2 .taken)
 
 mul-a : tie.Need-mul-a
