@@ -73,18 +73,23 @@ static void show(const char *what, const char *size, int sides, const double *be
 
 // A random shape of so many blocks and so many characters at most.
 static size_t make(uint64_t *s, size_t blocks, uint64_t most) {
+    memset(s, 0, BLOCK * blocks * sizeof *s);
     for (size_t i = 0; i < blocks; i++) {
-        uint64_t u = most / blocks + (i < most % blocks);
-        s[4 * i] = 0;
-        s[4 * i + 1] = (rnd(15) + 1) << 33;
-        s[4 * i + 2] = rnd(u + 1) / 2;
-        s[4 * i + 3] = u;
+        uint64_t *b = s + BLOCK * i, u = most / blocks + (i < most % blocks);
+        b[1] = (rnd(15) + 1) << 33;
+        b[LOWER] = rnd(u + 1) / 2;
+        b[UPPER] = u;
     }
-    return 4 * blocks;
+    return BLOCK * blocks;
+}
+
+// Beside the letters some of the codes over 127, each 128 above a letter's.
+static void add_latin(uint64_t *s, size_t n) {
+    for (size_t j = 0; j < n; j += BLOCK) s[j + 3] = rnd(16) << 33;
 }
 
 #define SHAPES 64
-static uint64_t shape[SHAPES][128];
+static uint64_t shape[SHAPES][SHAPE_MOST];
 static size_t length[SHAPES];
 static uint8_t text[SHAPES][250], work[63001];
 static size_t long_[SHAPES];
@@ -108,23 +113,34 @@ static double mean(const double *t) {
     return sum / SHAPES;
 }
 
+// A letter of the bases, or with `latin` as often a code of `add_latin`.
+static uint8_t letter(uint64_t letters, int latin) { return 97 + rnd(letters) + 128 * rnd(1 + latin); }
+
+// The greatest and the least text of a shape, and whether it fits them, half of them with one letter altered.
+static void same_bounds(int i, int latin) {
+    uint8_t out[250];
+    for (int up = 1; up >= 0; up--) {
+        long_[i] = extreme_of[up][1](shape[i], length[i], text[i], 250);
+        uint64_t ours = extreme_of[up][0](shape[i], length[i], out, 250);
+        same(ours == long_[i] && memcmp(out, text[i], long_[i]) == 0, "least or greatest text");
+        if (rnd(2) && long_[i]) text[i][rnd(long_[i])] = letter(4, latin);
+        ours = wedgeotter_fits(shape[i], length[i], text[i], long_[i]);
+        for (int side = 1; side < SIDES; side++)
+            same(ours == fits_of[side](shape[i], length[i], text[i], long_[i]), "fits");
+    }
+}
+
 static void bounds(const char *size, size_t blocks, uint64_t most) {
     uint8_t out[250];
-    for (int i = 0; i < SHAPES; i++) {
-        length[i] = make(shape[i], blocks, most);
-        for (int up = 1; up >= 0; up--) {
-            long_[i] = extreme_of[up][1](shape[i], length[i], text[i], 250);
-            same(extreme_of[up][0](shape[i], length[i], out, 250) == long_[i] && memcmp(out, text[i], long_[i]) == 0, "least or greatest text");
-        }
-        if (rnd(2) && long_[i]) text[i][rnd(long_[i])] = 97 + rnd(4);
-        uint64_t ours = wedgeotter_fits(shape[i], length[i], text[i], long_[i]);
-        for (int side = 1; side < SIDES; side++) same(ours == fits_of[side](shape[i], length[i], text[i], long_[i]), "fits");
-    }
+    for (int i = 0; i < SHAPES; i++) length[i] = make(shape[i], blocks, most);
+    for (int i = 0; i < SHAPES; i++) same_bounds(i, 0);
     double fits[SIDES] = {0}, texts[2][2] = {{0}};
     TURNS(1) {
-        for (int side = 0; side < SIDES; side++) TIME(fits[side], 0, SHAPES, fits_of[side](shape[i], length[i], text[i], long_[i]));
+        for (int side = 0; side < SIDES; side++)
+            TIME(fits[side], 0, SHAPES, fits_of[side](shape[i], length[i], text[i], long_[i]));
         for (int up = 0; up < 2; up++)
-            for (int side = 0; side < 2; side++) TIME(texts[up][side], 0, SHAPES, extreme_of[up][side](shape[i], length[i], out, 250));
+            for (int side = 0; side < 2; side++)
+                TIME(texts[up][side], 0, SHAPES, extreme_of[up][side](shape[i], length[i], out, 250));
     }
     show("fits", size, SIDES, fits), puts("");
     show("least text", size, 2, texts[0]), puts("");
@@ -133,16 +149,19 @@ static void bounds(const char *size, size_t blocks, uint64_t most) {
 
 #define NEXT ((i + 1) % SHAPES)
 
+static void same_sweeps(int i) {
+    uint64_t a[64] = {0}, b[64] = {0};
+    uint64_t ours = wedgeotter_sweep(shape[i], length[i], shape[NEXT], length[NEXT], a, 64);
+    uint64_t plain = plain_sweep(shape[i], length[i], shape[NEXT], length[NEXT], b, 64);
+    same(ours == plain && memcmp(a, b, sizeof a) == 0, "sweep");
+}
+
 // The sweep of each shape in the next one. Half of the pairs are a shape against itself, so that many have places.
 static void sweeps(const char *size, size_t blocks, uint64_t most) {
     uint64_t a[64], b[64];
     for (int i = 0; i < SHAPES; i++) length[i] = make(shape[i], blocks, most);
     for (int i = 0; i + 1 < SHAPES; i += 4) memcpy(shape[i + 1], shape[i], sizeof shape[i]);
-    for (int i = 0; i < SHAPES; i++) {
-        memset(a, 0, sizeof a), memset(b, 0, sizeof b);
-        uint64_t ours = wedgeotter_sweep(shape[i], length[i], shape[NEXT], length[NEXT], a, 64);
-        same(ours == plain_sweep(shape[i], length[i], shape[NEXT], length[NEXT], b, 64) && memcmp(a, b, sizeof a) == 0, "sweep");
-    }
+    for (int i = 0; i < SHAPES; i++) same_sweeps(i);
     double best[2] = {0};
     TURNS(1) {
         TIME(best[0], 0, SHAPES, wedgeotter_sweep(shape[i], length[i], shape[NEXT], length[NEXT], a, 64));
@@ -156,7 +175,8 @@ static uint64_t answers_of(const struct answer *row) {
     uint64_t sum = 0;
     for (int i = 0; i < 64; i++) {
         uint64_t looks = row[i].looks % 65536;
-        sum = sum % 4294967296 * 3 + (row[i].verdict == PLACES ? looks : row[i].verdict == CANNOT ? 65536 + looks : 131072);
+        uint64_t answer = row[i].verdict == PLACES ? looks : row[i].verdict == CANNOT ? 65536 + looks : 131072;
+        sum = sum % 4294967296 * 3 + answer;
     }
     return sum;
 }
@@ -170,26 +190,34 @@ static uint64_t tray_in_c(const uint64_t *blocks, size_t n, const uint64_t *pair
 // So many single sweeps by the proved call as the tray has pairs, which are known to be good.
 static uint64_t singles(const uint64_t *blocks, const uint64_t *pairs) {
     uint64_t sum = 0, out[64];
-    for (const uint64_t *p = pairs; p < pairs + 256; p += 4)
-        sum = sum % 4294967296 * 3 + wedgeotter_sweep(blocks + 4 * p[0], 4 * (p[1] - p[0]), blocks + 4 * p[2], 4 * (p[3] - p[2]), out, 64);
+    for (const uint64_t *p = pairs; p < pairs + 256; p += 4) {
+        const uint64_t *x = blocks + BLOCK * p[0], *y = blocks + BLOCK * p[2];
+        sum = sum % 4294967296 * 3 + wedgeotter_sweep(x, BLOCK * (p[1] - p[0]), y, BLOCK * (p[3] - p[2]), out, 64);
+    }
     return sum;
 }
 
 // A tray of 64 pairs, each a shape against the next one, with the places as in `sweeps`; beside 64 single sweeps and a
-// loop in C. First trays with bad pairs.
+// loop in C. First trays with bad pairs, and with codes over 127.
 static void trays(const char *size, size_t blocks, uint64_t most) {
-    static uint64_t run[SHAPES * 128 + 3];
+    static uint64_t run[SHAPES * SHAPE_MOST + BLOCK - 1];
     uint64_t pairs[256];
-    size_t n = 4 * blocks * SHAPES;
-    for (int i = 0; i < SHAPES; i++) make(run + 4 * blocks * i, blocks, most);
-    for (int i = 0; i + 1 < SHAPES; i += 4) memcpy(run + 4 * blocks * (i + 1), run + 4 * blocks * i, 32 * blocks);
+    size_t each = BLOCK * blocks, n = each * SHAPES;
+    for (int i = 0; i < SHAPES; i++) make(run + each * i, blocks, most);
+    add_latin(run, n);
     for (int turn = 0; turn < 200; turn++) {
         for (int i = 0; i < 256; i++) pairs[i] = rnd(blocks * SHAPES + 2);
         for (int i = 0; i < 256; i += 2)
             if (rnd(4)) pairs[i + 1] = pairs[i] + rnd(4);
-        same(wedgeotter_tray(run, n + turn % 4, pairs, 256) == tray_in_c(run, n + turn % 4, pairs), "tray");
+        size_t lent = n + turn % BLOCK;
+        same(wedgeotter_tray(run, lent, pairs, 256) == tray_in_c(run, lent, pairs), "tray");
     }
-    for (int i = 0; i < SHAPES; i++) pairs[4 * i] = blocks * i, pairs[4 * i + 1] = blocks * (i + 1), pairs[4 * i + 2] = blocks * NEXT, pairs[4 * i + 3] = blocks * (NEXT + 1);
+    for (int i = 0; i < SHAPES; i++) make(run + each * i, blocks, most);
+    for (int i = 0; i + 1 < SHAPES; i += 4) memcpy(run + each * (i + 1), run + each * i, each * sizeof *run);
+    for (int i = 0; i < SHAPES; i++) {
+        const uint64_t pair[4] = {blocks * i, blocks * (i + 1), blocks * NEXT, blocks * (NEXT + 1)};
+        memcpy(pairs + 4 * i, pair, sizeof pair);
+    }
     same(wedgeotter_tray(run, n, pairs, 256) == tray_in_c(run, n, pairs), "tray");
     double best[SIDES] = {0};
     TURNS(1) {
@@ -200,21 +228,24 @@ static void trays(const char *size, size_t blocks, uint64_t most) {
     show("tray of 64 pairs", size, SIDES, best), puts("");
 }
 
-// A mark of so many bytes sought in the shapes: letters of the bases at random, or one of them throughout. First the
-// answers on marks of every length, also with bytes that no base has and over 64.
-static void finds(const char *size, size_t blocks, uint64_t most, size_t m) {
+// Marks of every length, also with bytes that no base has and over 64.
+static void same_finds(int i, int latin) {
     uint8_t mark[66];
-    for (int i = 0; i < SHAPES; i++) {
-        length[i] = make(shape[i], blocks, most);
-        for (size_t k = 0; k <= 66; k++) {
-            uint64_t letters = rnd(4) + 1;
-            for (size_t j = 0; j < k; j++) mark[j] = rnd(200) ? 97 + rnd(letters) : 200;
-            uint64_t ours = wedgeotter_find(shape[i], length[i], mark, k);
-            for (int side = 1; side < SIDES; side++) same(ours == find_of[side](shape[i], length[i], mark, k), "find");
-        }
+    for (size_t k = 0; k <= 66; k++) {
+        uint64_t letters = rnd(4) + 1;
+        for (size_t j = 0; j < k; j++) mark[j] = rnd(200) ? letter(letters, latin) : 200;
+        uint64_t ours = wedgeotter_find(shape[i], length[i], mark, k);
+        for (int side = 1; side < SIDES; side++) same(ours == find_of[side](shape[i], length[i], mark, k), "find");
     }
+}
+
+// A mark of so many bytes sought in the shapes: letters of the bases at random, or one of them throughout.
+static void finds(const char *size, size_t blocks, uint64_t most, size_t m) {
+    uint8_t mark[64];
+    for (int i = 0; i < SHAPES; i++) length[i] = make(shape[i], blocks, most);
+    for (int i = 0; i < SHAPES; i++) same_finds(i, 0);
     for (int letters = 4; letters > 0; letters -= 3) {
-        char what[80];
+        char what[40];
         int some = 0, all = 0;
         double best[SIDES] = {0};
         for (size_t j = 0; j < m; j++) mark[j] = 97 + rnd(letters);
@@ -223,43 +254,59 @@ static void finds(const char *size, size_t blocks, uint64_t most, size_t m) {
             some += ours >= 1000000, all += ours > 0 && ours < 1000000;
         }
         TURNS(0.5)
-            for (int side = 0; side < SIDES; side++) TIME(best[side], 0, SHAPES, find_of[side](shape[i], length[i], mark, m));
+            for (int side = 0; side < SIDES; side++)
+                TIME(best[side], 0, SHAPES, find_of[side](shape[i], length[i], mark, m));
         snprintf(what, sizeof what, "find %d%s", (int)m, letters == 1 ? ", one letter" : "");
         show(what, size, SIDES, best);
         printf("           in some texts of %d, in all of %d of %d\n", some, all, SHAPES);
     }
 }
 
-static uint64_t other[SHAPES][128];
+// The calls that do not narrow are compared, but not timed, on codes over 127.
+static void same_latin(size_t blocks, uint64_t most) {
+    for (int i = 0; i < SHAPES; i++) {
+        length[i] = make(shape[i], blocks, most);
+        add_latin(shape[i], length[i]);
+    }
+    for (int i = 0; i < SHAPES; i++) same_bounds(i, 1), same_sweeps(i), same_finds(i, 1);
+}
+
+static uint64_t other[SHAPES][SHAPE_MOST];
 static size_t other_length[SHAPES];
 
 // A shape that keeps to the least text of another up to its last run: the comparison of the two is not settled before.
 static size_t make_tight(uint64_t *s, const uint64_t *x, size_t n) {
     uint8_t least[250];
     size_t k = plain_least(x, n, least, 250), blocks = 0;
-    for (size_t i = 0; i < k; i++) {
-        if (i == 0 || least[i] != least[i - 1]) memcpy(s + 4 * blocks++, (uint64_t[]){0, 1ull << (least[i] - 64), 0, 0}, 32);
-        s[4 * blocks - 2]++;
-        s[4 * blocks - 1]++;
-    }
+    uint64_t *b = s;
     if (k == 0) return make(s, 1, 1);
-    s[4 * blocks - 3] |= s[4 * blocks - 3] << 1;
-    return 4 * blocks;
+    for (size_t i = 0; i < k; i++) {
+        if (i == 0 || least[i] != least[i - 1]) {
+            b = s + BLOCK * blocks++;
+            memset(b, 0, BLOCK * sizeof *b);
+            b[least[i] / 64] = 1ull << (least[i] % 64);
+        }
+        b[LOWER]++;
+        b[UPPER]++;
+    }
+    b[1] |= b[1] << 1;
+    return BLOCK * blocks;
 }
 
 // What a random shape stands beside: the next one; a tight one; itself, with fixed counts; the next one, with large
-// bases; where both are fields, one padded otherwise; the next one, where all letters have both cases, and where each
-// has one or both.
-enum pairing { NEXT_ONE, TIGHT, FIXED, LARGE, FIELDS, BOTH_CASES, SOME_CASES };
+// bases; the next one, with codes over 127; where both are fields, one padded otherwise; the next one, where all
+// letters have both cases, and where each has one or both, with codes over 127.
+enum pairing { NEXT_ONE, TIGHT, FIXED, LARGE, LATIN, FIELDS, BOTH_CASES, SOME_CASES };
 
 // Half of all codes, in the mean, in each base.
 static void enlarge(uint64_t *s, size_t n) {
-    for (size_t j = 0; j < n; j += 4) s[j] = rnd(~0ull), s[j + 1] = rnd(~0ull);
+    for (size_t j = 0; j < n; j += BLOCK)
+        for (int w = 0; w < WORDS; w++) s[j + w] = rnd(~0ull);
 }
 
 // Capitals beside the small letters, or for some of them in their place.
 static void add_capitals(int all, uint64_t *s, size_t n) {
-    for (size_t j = 1; j < n; j += 4) {
+    for (size_t j = 1; j < n; j += BLOCK) {
         uint64_t capitals = all ? s[j] >> 32 : s[j] >> 32 & rnd(~0ull);
         s[j] = (s[j] & ~(all ? 0 : (capitals & rnd(~0ull)) << 32)) | capitals;
     }
@@ -267,7 +314,7 @@ static void add_capitals(int all, uint64_t *s, size_t n) {
 
 // Makes a shape a field: the blank in half of the bases, and the last quarter of the blocks padding alone.
 static void make_field(uint64_t *s, size_t n) {
-    for (size_t j = 0; j < n; j += 4) {
+    for (size_t j = 0; j < n; j += BLOCK) {
         s[j] = rnd(2) ? BLANK : 0;
         if (j >= n - n / 4) s[j] = BLANK, s[j + 1] = 0;
     }
@@ -278,11 +325,11 @@ static void make_field(uint64_t *s, size_t n) {
 // often the two are equal but for padding alone.
 static size_t make_beside(int bare, uint64_t *field, uint64_t *s, size_t n) {
     size_t padding = n - n / 4;
-    for (size_t j = 0; j < n; j += 4) {
+    for (size_t j = 0; j < n; j += BLOCK) {
         if (j < padding) s[j + 1] |= (rnd(15) + 1) << 33;
-        else s[j + 3] = rnd(s[j + 3]) + 1;
-        s[j + 2] = rnd(s[j + 3] + 1) / 2;
-        if (bare && j >= padding) field[j + 2] = field[j + 3];
+        else s[j + UPPER] = rnd(s[j + UPPER]) + 1;
+        s[j + LOWER] = rnd(s[j + UPPER] + 1) / 2;
+        if (bare && j >= padding) field[j + LOWER] = field[j + UPPER];
     }
     return bare ? padding : n;
 }
@@ -292,8 +339,9 @@ static void make_pairs(enum pairing with, size_t blocks, uint64_t most) {
         length[i] = make(shape[i], blocks, most);
         if (with == LARGE) enlarge(shape[i], length[i]);
         if (with == FIELDS) make_field(shape[i], length[i]);
+        if (with == LATIN || with == SOME_CASES) add_latin(shape[i], length[i]);
         if (with == BOTH_CASES || with == SOME_CASES) add_capitals(with == BOTH_CASES, shape[i], length[i]);
-        for (size_t j = 0; with == FIXED && j < length[i]; j += 4) shape[i][j + 2] = shape[i][j + 3];
+        for (size_t j = 0; with == FIXED && j < length[i]; j += BLOCK) shape[i][j + LOWER] = shape[i][j + UPPER];
     }
     for (int i = 0; i < SHAPES; i++) {
         int beside = with == FIXED || with == FIELDS ? i : NEXT;
@@ -305,38 +353,42 @@ static void make_pairs(enum pairing with, size_t blocks, uint64_t most) {
 }
 
 #define PAIR shape[i], length[i], other[i], other_length[i], work, sizeof work
+#define ROOM(out) (out), SHAPE_MOST
 
 // A join of the first shape of each pair, in the mean over the pairs, with two shapes in the place of the other, whose
 // lengths add to its.
-static uint64_t second[SHAPES][128], third[SHAPES][128];
+static uint64_t second[SHAPES][SHAPE_MOST], third[SHAPES][SHAPE_MOST];
 static size_t second_length[SHAPES], third_length[SHAPES];
 
 #define TRIPLE shape[i], length[i], second[i], second_length[i], third[i], third_length[i], work, sizeof work
+#define OUTS(out) ROOM((out)[0]), ROOM((out)[1]), ROOM((out)[2])
 
 // After the ratios to plain C that to our equality to the letter on the pairs, and how many of the joins and of the
 // pairs are not none. If the two are the other shape cut in two, a join allows what equality does.
 static void joins(const char *size, int cut) {
-    uint64_t out[2][3][128], a[128], b[128];
+    uint64_t out[2][3][SHAPE_MOST], a[SHAPE_MOST], b[SHAPE_MOST];
     int some = 0, pairs = 0;
     for (int i = 0; i < SHAPES; i++) {
         memset(out[0], 0, sizeof out[0]), memset(a, 0, sizeof a), memset(b, 0, sizeof b);
-        uint64_t ours = wedgeotter_join(TRIPLE, out[0][0], 128, out[0][1], 128, out[0][2], 128), equal = wedgeotter_exact(PAIR, a, 128, b, 128);
+        uint64_t ours = wedgeotter_join(TRIPLE, OUTS(out[0])), equal = wedgeotter_exact(PAIR, ROOM(a), ROOM(b));
         for (int side = 1; side < SIDES; side++) {
             memset(out[1], 0, sizeof out[1]);
-            same(ours == join_of[side](TRIPLE, out[1][0], 128, out[1][1], 128, out[1][2], 128) && memcmp(out[0], out[1], sizeof out[0]) == 0, "join");
+            uint64_t plain = join_of[side](TRIPLE, OUTS(out[1]));
+            same(ours == plain && memcmp(out[0], out[1], sizeof out[0]) == 0, "join");
         }
         some += ours, pairs += equal;
         if (!cut) continue;
         memcpy(out[0][1] + second_length[i], out[0][2], third_length[i] * sizeof *b);
-        same(ours == equal && memcmp(a, out[0][0], sizeof a) == 0 && memcmp(b, out[0][1], sizeof b) == 0, "join and equality");
+        same(ours == equal && memcmp(a, out[0][0], sizeof a) == 0 && memcmp(b, out[0][1], sizeof b) == 0,
+             "join and equality");
     }
     static double best[SIDES][SHAPES], equal[SHAPES];
     double means[SIDES];
     memset(best, 0, sizeof best), memset(equal, 0, sizeof equal);
     TURNS(3)
         for (int k = 0; k < SHAPES; k++) {
-            for (int side = 0; side < SIDES; side++) TIME(best[side][k], k, 1, join_of[side](TRIPLE, out[0][0], 128, out[0][1], 128, out[0][2], 128));
-            TIME(equal[k], k, 1, wedgeotter_exact(PAIR, a, 128, b, 128));
+            for (int side = 0; side < SIDES; side++) TIME(best[side][k], k, 1, join_of[side](TRIPLE, OUTS(out[0])));
+            TIME(equal[k], k, 1, wedgeotter_exact(PAIR, ROOM(a), ROOM(b)));
         }
     for (int side = 0; side < SIDES; side++) means[side] = mean(best[side]);
     show("join", size, SIDES, means);
@@ -345,8 +397,11 @@ static void joins(const char *size, int cut) {
 
 static void cut_joins(const char *size) {
     for (int i = 0; i < SHAPES; i++) {
-        if (other_length[i] == 4) other_length[i] = 8, memset(other[i] + 4, 0, 32); // an empty block, so that there are two
-        second_length[i] = other_length[i] / 8 * 4;
+        if (other_length[i] == BLOCK) { // an empty block, so that there are two
+            memset(other[i] + BLOCK, 0, BLOCK * sizeof *other[i]);
+            other_length[i] = 2 * BLOCK;
+        }
+        second_length[i] = other_length[i] / BLOCK / 2 * BLOCK;
         third_length[i] = other_length[i] - second_length[i];
         memcpy(second[i], other[i], second_length[i] * sizeof *second[i]);
         memcpy(third[i], other[i] + second_length[i], third_length[i] * sizeof *third[i]);
@@ -378,7 +433,8 @@ static void few_joins(const char *size, size_t blocks, uint64_t most) {
 // What padding costs on a pair: our times under it to those to the letter, over the pairs on which both make the same
 // passes, since both narrow or neither does, on the worst of these, and on the worst of the others, where the letters
 // allow no pair, so that the exact call ends after its first pass.
-static void show_padding(const double *padded, const double *exact, const uint64_t *padded_some, const uint64_t *exact_some) {
+static void show_padding(const double *padded, const double *exact, const uint64_t *padded_some,
+                         const uint64_t *exact_some) {
     double over = 0, sum = 0, worst[2] = {0, 0};
     for (int i = 0; i < SHAPES; i++) {
         int alone = padded_some[i] != exact_some[i];
@@ -392,15 +448,15 @@ static void show_padding(const double *padded, const double *exact, const uint64
 // Narrowing of the pairs under each relation, in the mean over them; after the ratios to plain C that to our equality
 // to the letter, and how many pairs are not none. Then joins.
 static void narrows(const char *size, size_t blocks, uint64_t most, enum pairing with) {
-    uint64_t a[128], b[128], c[128], d[128], some[RELATIONS][SHAPES];
+    uint64_t a[SHAPE_MOST], b[SHAPE_MOST], c[SHAPE_MOST], d[SHAPE_MOST], some[RELATIONS][SHAPES];
     make_pairs(with, blocks, most);
     for (int r = 0; r < RELATIONS; r++)
         for (int i = 0; i < SHAPES; i++) {
             memset(a, 0, sizeof a), memset(b, 0, sizeof b);
-            some[r][i] = narrow_of[r][0](PAIR, a, 128, b, 128);
+            some[r][i] = narrow_of[r][0](PAIR, ROOM(a), ROOM(b));
             for (int side = 1; side < SIDES; side++) {
                 memset(c, 0, sizeof c), memset(d, 0, sizeof d);
-                uint64_t plain = narrow_of[r][side](PAIR, c, 128, d, 128);
+                uint64_t plain = narrow_of[r][side](PAIR, ROOM(c), ROOM(d));
                 same(some[r][i] == plain && memcmp(a, c, sizeof a) == 0 && memcmp(b, d, sizeof b) == 0, relation_of[r]);
             }
         }
@@ -410,7 +466,8 @@ static void narrows(const char *size, size_t blocks, uint64_t most, enum pairing
     TURNS(4)
         for (int r = 0; r < RELATIONS; r++)
             for (int k = 0; k < SHAPES; k++)
-                for (int side = 0; side < SIDES; side++) TIME(best[r][side][k], k, 1, narrow_of[r][side](PAIR, a, 128, b, 128));
+                for (int side = 0; side < SIDES; side++)
+                    TIME(best[r][side][k], k, 1, narrow_of[r][side](PAIR, ROOM(a), ROOM(b)));
     for (int r = 0; r < RELATIONS; r++) {
         int narrow = 0;
         for (int i = 0; i < SHAPES; i++) narrow += some[r][i];
@@ -427,19 +484,20 @@ static void narrows(const char *size, size_t blocks, uint64_t most, enum pairing
 // of equality to the letter and leaves the same: after the ratios to plain C that to our equality to the letter, the
 // greatest of a pair, and how many pairs are not none. Before, the sides are compared on letters of any case.
 static void any_cases(const char *size, size_t blocks, uint64_t most) {
-    uint64_t a[128], b[128], c[128], d[128];
+    uint64_t a[SHAPE_MOST], b[SHAPE_MOST], c[SHAPE_MOST], d[SHAPE_MOST];
     int narrow = 0;
     for (enum pairing with = SOME_CASES; with >= BOTH_CASES; with--) {
         make_pairs(with, blocks, most);
         for (int i = 0; i < SHAPES; i++) {
             memset(a, 0, sizeof a), memset(b, 0, sizeof b);
-            uint64_t some = wedgeotter_any_case(PAIR, a, 128, b, 128);
+            uint64_t some = wedgeotter_any_case(PAIR, ROOM(a), ROOM(b));
             if (with == BOTH_CASES) narrow += some;
             for (int side = 1; side <= SIDES; side++) {
                 narrowing *as = side < SIDES ? any_case_of[side] : wedgeotter_exact;
                 if (side == SIDES && with == SOME_CASES) continue;
                 memset(c, 0, sizeof c), memset(d, 0, sizeof d);
-                same(some == as(PAIR, c, 128, d, 128) && memcmp(a, c, sizeof a) == 0 && memcmp(b, d, sizeof b) == 0, "equal but for letter case");
+                same(some == as(PAIR, ROOM(c), ROOM(d)) && memcmp(a, c, sizeof a) == 0 && memcmp(b, d, sizeof b) == 0,
+                     "equal but for letter case");
             }
         }
     }
@@ -450,7 +508,8 @@ static void any_cases(const char *size, size_t blocks, uint64_t most) {
     TURNS(4)
         for (int r = 0; r < 2; r++)
             for (int k = 0; k < SHAPES; k++)
-                for (int side = 0; side < SIDES; side++) TIME(best[r][side][k], k, 1, of[r][side](PAIR, a, 128, b, 128));
+                for (int side = 0; side < SIDES; side++)
+                    TIME(best[r][side][k], k, 1, of[r][side](PAIR, ROOM(a), ROOM(b)));
     for (int side = 0; side < SIDES; side++) means[side] = mean(best[1][side]);
     for (int i = 0; i < SHAPES; i++)
         if (best[1][0][i] / best[0][0][i] > worst) worst = best[1][0][i] / best[0][0][i];
@@ -458,23 +517,23 @@ static void any_cases(const char *size, size_t blocks, uint64_t most) {
     printf(" %8.2f  %d of %d narrow, at most %.2f\n", means[0] / mean(best[0][0]), narrow, SHAPES, worst);
 }
 
-#define UNTOUCHED 255 // no character, so that bytes past a text show
-
 // The earliest common text of the pairs, in the mean over them; after the ratios to plain C that to our equality to the
 // letter, and how many pairs meet.
 static void commons(const char *size, size_t blocks, uint64_t most, enum pairing with) {
     uint8_t ours[256], plain[256];
-    uint64_t a[128], b[128];
+    uint64_t a[SHAPE_MOST], b[SHAPE_MOST];
     int some = 0;
     make_pairs(with, blocks, most);
     for (int i = 0; i < SHAPES; i++) {
-        memset(ours, UNTOUCHED, sizeof ours);
-        uint64_t n = wedgeotter_common(PAIR, ours, sizeof ours), meets = wedgeotter_exact(PAIR, a, 128, b, 128);
+        const uint8_t untouched = i; // another for each pair, since every byte is a character
+        memset(ours, untouched, sizeof ours);
+        uint64_t n = wedgeotter_common(PAIR, ours, sizeof ours), meets = wedgeotter_exact(PAIR, ROOM(a), ROOM(b));
         same(meets == (n <= 250), "whether there is a common text");
-        for (size_t k = meets ? n : 0; k < sizeof ours; k++) same(ours[k] == UNTOUCHED, "past the common text");
+        for (size_t k = meets ? n : 0; k < sizeof ours; k++) same(ours[k] == untouched, "past the common text");
         for (int side = 1; side < SIDES; side++) {
-            memset(plain, UNTOUCHED, sizeof plain);
-            same(n == common_of[side](PAIR, plain, sizeof plain) && memcmp(ours, plain, sizeof ours) == 0, "common text");
+            memset(plain, untouched, sizeof plain);
+            same(n == common_of[side](PAIR, plain, sizeof plain) && memcmp(ours, plain, sizeof ours) == 0,
+                 "common text");
         }
         some += meets;
     }
@@ -483,8 +542,9 @@ static void commons(const char *size, size_t blocks, uint64_t most, enum pairing
     memset(best, 0, sizeof best), memset(equal, 0, sizeof equal);
     TURNS(2) {
         for (int k = 0; k < SHAPES; k++)
-            for (int side = 0; side < SIDES; side++) TIME(best[side][k], k, 1, common_of[side](PAIR, ours, sizeof ours));
-        for (int k = 0; k < SHAPES; k++) TIME(equal[k], k, 1, wedgeotter_exact(PAIR, a, 128, b, 128));
+            for (int side = 0; side < SIDES; side++)
+                TIME(best[side][k], k, 1, common_of[side](PAIR, ours, sizeof ours));
+        for (int k = 0; k < SHAPES; k++) TIME(equal[k], k, 1, wedgeotter_exact(PAIR, ROOM(a), ROOM(b)));
     }
     for (int side = 0; side < SIDES; side++) means[side] = mean(best[side]);
     show("common", size, SIDES, means);
@@ -497,24 +557,25 @@ static void commons(const char *size, size_t blocks, uint64_t most, enum pairing
 // others have the blank.
 static size_t make_around(uint64_t *s, size_t blocks, uint64_t most, const uint8_t *w, size_t len) {
     uint64_t room = most;
+    memset(s, 0, BLOCK * blocks * sizeof *s);
     for (size_t i = 0; i < blocks; i++) {
-        uint64_t u = most / blocks + (i < most % blocks);
+        uint64_t *b = s + BLOCK * i, u = most / blocks + (i < most % blocks);
         room -= u;
         uint64_t least = len > room ? len - room : 0, run = least + rnd((len < u ? len : u) - least + 1);
-        s[4 * i] = i + 1 == blocks || rnd(2) ? BLANK : 0;
-        s[4 * i + 1] = (1ull << rnd(LETTERS) | 1ull << rnd(LETTERS) | 1ull << rnd(LETTERS)) << 33;
-        s[4 * i + 2] = rnd(run + 1);
-        s[4 * i + 3] = u;
-        for (len -= run; run > 0; run--) s[4 * i + 1] |= 1ull << (*w++ - 64);
+        b[0] = i + 1 == blocks || rnd(2) ? BLANK : 0;
+        b[1] = (1ull << rnd(LETTERS) | 1ull << rnd(LETTERS) | 1ull << rnd(LETTERS)) << 33;
+        b[LOWER] = rnd(run + 1);
+        b[UPPER] = u;
+        for (len -= run; run > 0; run--) b[1] |= 1ull << (*w++ - 64);
     }
-    return 4 * blocks;
+    return BLOCK * blocks;
 }
 
 // A random book of 8 texts and 16 rules of all kinds, with joins or without. Without them the first four texts can all
 // be one text, the others another after it; with them the first two can be the first half of a line, the next four the
 // line, the others its second half, each after those before. The rules allow that; the book is drawn until its run
 // takes four rounds or more.
-static uint64_t counts[8], entered[1024], rules[64], made;
+static uint64_t counts[8], entered[BOOK_MOST], rules[64], made;
 static size_t numbers;
 
 static const uint64_t kinds[6] = {3, 0, 1, 2, 4, 5}; // in turn, without joins from the second on
@@ -522,7 +583,9 @@ static const int group_of[2][8] = {{0, 0, 0, 0, 1, 1, 1, 1}, {0, 0, 1, 1, 1, 1, 
 
 static int allowed(const int *group, uint64_t kind, uint64_t a, uint64_t b, uint64_t c) {
     if (kind == 3) return group[a] == 1 && group[b] == 0 && group[c] == 2;
-    return a != b && (kind == 0 || kind >= 4 ? group[a] == group[b] : kind == 1 ? group[a] <= group[b] : group[a] < group[b]);
+    if (kind == 1) return group[a] <= group[b] && a != b;
+    if (kind == 2) return group[a] < group[b];
+    return group[a] == group[b] && a != b;
 }
 
 static void make_book(int joins, size_t blocks, uint64_t most) {
@@ -531,9 +594,10 @@ static void make_book(int joins, size_t blocks, uint64_t most) {
         const uint8_t *text;
         size_t length;
         uint64_t most;
-    } of[2][3] = {{{text[0], half, most}, {text[1], half, most}}, {{text[0], cut, half}, {text[0], half, most}, {text[0] + cut, half - cut, half}}};
+    } of[2][3] = {{{text[0], half, most}, {text[1], half, most}},
+                  {{text[0], cut, half}, {text[0], half, most}, {text[0] + cut, half - cut, half}}};
     const int *group = group_of[joins];
-    uint64_t run[1024];
+    uint64_t run[BOOK_MOST];
     do {
         for (int g = 0; g < 2; g++)
             for (size_t i = 0; i < half; i++) text[g][i] = 97 + (i ? rnd(LETTERS) : (uint64_t)g);
@@ -542,7 +606,8 @@ static void make_book(int joins, size_t blocks, uint64_t most) {
         for (int k = 0; k < 8; k++) {
             int g = group[k];
             counts[k] = blocks;
-            numbers += make_around(entered + numbers, blocks, of[joins][g].most, of[joins][g].text, of[joins][g].length);
+            uint64_t *to = entered + numbers;
+            numbers += make_around(to, blocks, of[joins][g].most, of[joins][g].text, of[joins][g].length);
         }
         for (int j = 0; j < 16; j++) {
             uint64_t a, b, c = 0, kind = joins ? kinds[j % 6] : kinds[1 + j % 5];
@@ -557,7 +622,7 @@ static void make_book(int joins, size_t blocks, uint64_t most) {
     } while (made < 64 || made >= NONE);
 }
 
-static uint64_t left[1024];
+static uint64_t left[BOOK_MOST];
 
 // Each run begins with the blocks as entered.
 static uint64_t run_anew(running *run) {
@@ -565,46 +630,64 @@ static uint64_t run_anew(running *run) {
     return run(counts, 8, left, numbers, rules, 64, work, sizeof work);
 }
 
-static uint8_t file[16384], report[SIDES][16384];
+static uint8_t file[FILE_MOST], report[SIDES][REPORT_LEAST];
 
 // The call for a host in C, with lent work.
 static uint64_t hosted(size_t n, uint8_t *report) {
-    int64_t answer = wedgeotter_run_file(file, n, report, 16384, work, sizeof work);
+    int64_t answer = wedgeotter_run_file(file, n, report, REPORT_LEAST, work, sizeof work);
     return answer < 0 ? REFUSED : (uint64_t)answer;
 }
 
+#define UNTOUCHED 255 // no byte of a report, so that those past it show
+
 static void same_files(size_t n) {
-    static uint8_t host_report[16384];
+    static uint8_t host_report[REPORT_LEAST];
     memset(report, UNTOUCHED, sizeof report), memset(host_report, UNTOUCHED, sizeof host_report);
     uint64_t ours = wedgeotter_file(file, n, report[0], sizeof report[0]);
     same(ours == hosted(n, host_report) && memcmp(report[0], host_report, sizeof host_report) == 0, "file from C");
-    for (int side = 1; side < SIDES; side++)
-        same(ours == file_of[side](file, n, report[side], sizeof report[side]) && memcmp(report[0], report[side], sizeof report[0]) == 0, "file");
+    for (int side = 1; side < SIDES; side++) {
+        uint64_t plain = file_of[side](file, n, report[side], sizeof report[side]);
+        same(ours == plain && memcmp(report[0], report[side], sizeof report[0]) == 0, "file");
+    }
 }
 
-// The book as a file, also with one byte altered and cut short, which most often is refused.
-static void files(const char *what, const char *size) {
-    char *const start = (char *)file, *to = start;
-    to += sprintf(to, "TEXTS 8\n");
-    for (int k = 0; k < 8; k++) to += sprintf(to, "%d\n", (int)counts[k]);
-    to += sprintf(to, "BLOCKS %d\n", (int)numbers / 4);
-    for (uint64_t *s = entered; s < entered + numbers; s += 4)
-        to += sprintf(to, "%016llx%016llx %d %d\n", (unsigned long long)s[1], (unsigned long long)s[0], (int)s[2], (int)s[3]);
-    to += sprintf(to, "RULES 16\n");
-    for (int j = 0; j < 64; j += 4) to += sprintf(to, "%d %d %d %d\n", (int)rules[j], (int)rules[j + 1], (int)rules[j + 2], (int)rules[j + 3]);
-    size_t n = to - start;
+// The file also with one byte altered and cut short, which most often is refused.
+static void same_near(size_t n) {
     same_files(n);
     for (int k = 0; k < 40; k++) {
         size_t at = rnd(n);
         uint8_t was = file[at];
-        file[at] = "012345 \nR"[rnd(9)];
+        file[at] = "012345 \nRW"[rnd(10)];
         same_files(n);
         file[at] = was;
         same_files(rnd(n));
     }
+}
+
+// Makes the book a file, its blocks under this heading with so many words of each base.
+static size_t write_file(const char *heading, int words) {
+    char *const start = (char *)file, *to = start;
+    to += sprintf(to, "TEXTS 8\n");
+    for (int k = 0; k < 8; k++) to += sprintf(to, "%d\n", (int)counts[k]);
+    to += sprintf(to, "%s %d\n", heading, (int)numbers / BLOCK);
+    for (uint64_t *b = entered; b < entered + numbers; b += BLOCK) {
+        for (int w = words; w-- > 0;) to += sprintf(to, "%016llx", (unsigned long long)b[w]);
+        to += sprintf(to, " %d %d\n", (int)b[LOWER], (int)b[UPPER]);
+    }
+    to += sprintf(to, "RULES 16\n");
+    for (uint64_t *r = rules; r < rules + 64; r += 4)
+        to += sprintf(to, "%d %d %d %d\n", (int)r[0], (int)r[1], (int)r[2], (int)r[3]);
+    return to - start;
+}
+
+// The book as a file. At last one with codes over 127, which is compared, but not timed.
+static void files(const char *what, const char *size) {
+    size_t n = write_file("BLOCKS", WORDS / 2);
+    same_near(n);
     double best[SIDES] = {0}, host = 0;
     TURNS(2) {
-        for (int side = 0; side < SIDES; side++) TIME(best[side], 0, 1, file_of[side](file, n, report[side], sizeof report[side]));
+        for (int side = 0; side < SIDES; side++)
+            TIME(best[side], 0, 1, file_of[side](file, n, report[side], sizeof report[side]));
         TIME(host, 0, 1, hosted(n, report[0]));
     }
     show(what, size, SIDES, best);
@@ -612,15 +695,18 @@ static void files(const char *what, const char *size) {
     best[0] = host;
     show("from C", size, SIDES, best);
     puts("");
+    add_latin(entered, numbers);
+    same_near(write_file("WIDE", WORDS));
 }
 
 // A book run by all sides.
 static void books(const char *size, int joins, size_t blocks, uint64_t most) {
-    static uint64_t kept[1024];
+    static uint64_t kept[BOOK_MOST];
     make_book(joins, blocks, most);
     uint64_t ours = run_anew(wedgeotter_book);
     memcpy(kept, left, sizeof kept);
-    for (int side = 1; side < SIDES; side++) same(ours == run_anew(book_of[side]) && memcmp(kept, left, sizeof kept) == 0, "book");
+    for (int side = 1; side < SIDES; side++)
+        same(ours == run_anew(book_of[side]) && memcmp(kept, left, sizeof kept) == 0, "book");
     double best[SIDES] = {0};
     TURNS(2)
         for (int side = 0; side < SIDES; side++) TIME(best[side], 0, 1, run_anew(book_of[side]));
@@ -630,9 +716,15 @@ static void books(const char *size, int joins, size_t blocks, uint64_t most) {
 }
 
 int main(void) {
-    puts("Times per call, the least of several turns, in the mean over the inputs: ours is the proved call, bytes plain C with byte tables, rows plain C with rows of bits.");
-    puts("After each plain C the ratio of ours to it; for narrowing, joins and common texts then that to our equality to the letter on the same pairs. Least and greatest text");
-    puts("and the sweep have one plain C; a mark is found by rows that are spread to others, and by rows in place as ours; a tray stands beside as many single calls of ours, then a loop in plain C. Equality but for padding makes a second pass on pairs that are none to the letter; the ratio without these follows, and the greatest of a pair. Equality but for letter case is timed where every base has both cases of its letters.");
+    puts("Times per call, the least of several turns, in the mean over the inputs: ours is the proved call, bytes "
+         "plain C with byte tables, rows plain C with rows of bits.");
+    puts("After each plain C the ratio of ours to it; for narrowing, joins and common texts then that to our equality "
+         "to the letter on the same pairs. Least and greatest text");
+    puts("and the sweep have one plain C; a mark is found by rows that are spread to others, and by rows in place as "
+         "ours; a tray stands beside as many single calls of ours, then a loop in plain C. Equality but for padding "
+         "makes a second pass on pairs that are none to the letter; the ratio without these follows, and the greatest "
+         "of a pair. Equality but for letter case is timed where every base has both cases of its letters. Large bases "
+         "have half of all 256 codes, those called Latin have codes over 127 beside letters.");
     printf("%-52s %12s %12s %6s %12s %6s %8s\n", "", "ours", "bytes", "ratio", "rows", "ratio", "to equal");
     bounds("8 blocks, 40 characters", 8, 40);
     bounds("32 blocks, 250 characters", 32, 250);
@@ -643,6 +735,8 @@ int main(void) {
     trays("1 block", 1, 5);
     trays("8 blocks", 8, 40);
     trays("32 blocks", 32, 250);
+    same_latin(8, 40);
+    same_latin(32, 250);
     narrows("8 blocks, 40 characters", 8, 40, NEXT_ONE);
     narrows("32 blocks, 250 characters", 32, 250, NEXT_ONE);
     narrows("8 blocks, 40, tight", 8, 40, TIGHT);
@@ -651,6 +745,8 @@ int main(void) {
     any_cases("32 blocks, 250 characters", 32, 250);
     narrows("8 blocks, 40, padded fields", 8, 40, FIELDS);
     narrows("32 blocks, 250, padded fields", 32, 250, FIELDS);
+    narrows("8 blocks, 40, Latin", 8, 40, LATIN);
+    narrows("32 blocks, 250, Latin", 32, 250, LATIN);
     books("8 blocks, 40 characters", 0, 8, 40);
     books("32 blocks, 250 characters", 0, 32, 250);
     commons("8 blocks, 40 characters", 8, 40, NEXT_ONE);

@@ -2,22 +2,51 @@
 #include "plain.h"
 #include <string.h>
 
-static int holds(const uint64_t *b, uint8_t c) { return c < 128 && (b[c / 64] >> (c % 64) & 1); }
+static int shares(const uint64_t *a, const uint64_t *b) {
+    return (a[0] & b[0]) || (a[1] & b[1]) || (a[2] & b[2]) || (a[3] & b[3]);
+}
+
+static void add(uint64_t *base, const uint64_t *more) {
+    for (int w = 0; w < WORDS; w++) base[w] |= more[w];
+}
+
+static void add_shared(uint64_t *base, const uint64_t *a, const uint64_t *b) {
+    for (int w = 0; w < WORDS; w++) base[w] |= a[w] & b[w];
+}
+
+static void cut(uint64_t *base, const uint64_t *by) {
+    for (int w = 0; w < WORDS; w++) base[w] &= by[w];
+}
+
+// The least and the greatest code of a base that has one.
+static inline int least_code(const uint64_t *base) {
+    if (base[0]) return __builtin_ctzll(base[0]);
+    if (base[1]) return 64 + __builtin_ctzll(base[1]);
+    if (base[2]) return 128 + __builtin_ctzll(base[2]);
+    return 192 + __builtin_ctzll(base[3]);
+}
+
+static inline int greatest_code(const uint64_t *base) {
+    if (base[3]) return 255 - __builtin_clzll(base[3]);
+    if (base[2]) return 191 - __builtin_clzll(base[2]);
+    if (base[1]) return 127 - __builtin_clzll(base[1]);
+    return 63 - __builtin_clzll(base[0]);
+}
 
 static uint64_t uppers(const uint64_t *s, size_t n) {
     uint64_t total = 0;
-    for (size_t i = 0; i < n; i += 4) total += s[i + 3];
+    for (size_t i = 0; i < n; i += BLOCK) total += s[i + UPPER];
     return total;
 }
 
 // Shape checking as document 01 and document 02, order 1, ask, but for the length: 0; 2, 10 or 11 with the block; or 3.
 static uint64_t check_blocks(const uint64_t *s, size_t n, uint64_t *block) {
-    for (size_t i = 0; i < n; i += 4) {
-        int empty = (s[i] | s[i + 1]) == 0;
-        *block = i / 4 + 1;
-        if (s[i + 2] > s[i + 3]) return 2;
-        if (s[i + 3] > 250) return 10;
-        if (empty != (s[i + 3] == 0)) return 11;
+    for (size_t i = 0; i < n; i += BLOCK) {
+        int empty = (s[i] | s[i + 1] | s[i + 2] | s[i + 3]) == 0;
+        *block = i / BLOCK + 1;
+        if (s[i + LOWER] > s[i + UPPER]) return 2;
+        if (s[i + UPPER] > 250) return 10;
+        if (empty != (s[i + UPPER] == 0)) return 11;
     }
     *block = 0;
     return uppers(s, n) <= 250 ? 0 : 3;
@@ -25,10 +54,11 @@ static uint64_t check_blocks(const uint64_t *s, size_t n, uint64_t *block) {
 
 int plain_check(const uint64_t *s, size_t n) {
     uint64_t block;
-    return n % 4 == 0 && n != 0 && n <= 128 && check_blocks(s, n, &block) == 0;
+    return n % BLOCK == 0 && n != 0 && n <= SHAPE_MOST && check_blocks(s, n, &block) == 0;
 }
 
-int plain_check_join(const uint64_t *x, size_t nx, const uint64_t *y, size_t ny, const uint64_t *z, size_t nz, size_t w, size_t a, size_t b, size_t c) {
+int plain_check_join(const uint64_t *x, size_t nx, const uint64_t *y, size_t ny, const uint64_t *z, size_t nz, size_t w,
+                     size_t a, size_t b, size_t c) {
     if (!plain_check(x, nx) || !plain_check(y, ny) || !plain_check(z, nz)) return 0;
     return uppers(y, ny) + uppers(z, nz) <= 250 && w >= 63001 && a >= nx && b >= ny && c >= nz;
 }
@@ -39,15 +69,15 @@ uint64_t plain_fits(const uint64_t *s, size_t n, const uint8_t *t, size_t k) {
     uint8_t a[251], b[251], *after = a, *row = b;
     memset(a, 0, sizeof a);
     after[k] = 1;
-    for (size_t i = n; i > 0; i -= 4) {
-        const uint64_t *w = s + i - 4;
+    for (size_t i = n; i > 0; i -= BLOCK) {
+        const uint64_t *w = s + i - BLOCK;
         size_t end = k, near = k + 1;
         memset(row, 0, 251);
         for (size_t p = k + 1; p-- > 0;) {
             if (p == k) end = k;
             else if (!holds(w, t[p])) end = p;
-            if (w[2] <= k - p && after[p + w[2]] == 1) near = p + w[2];
-            row[p] = near <= end && near - p <= w[3];
+            if (w[LOWER] <= k - p && after[p + w[LOWER]] == 1) near = p + w[LOWER];
+            row[p] = near <= end && near - p <= w[UPPER];
         }
         uint8_t *x = after;
         after = row;
@@ -59,10 +89,10 @@ uint64_t plain_fits(const uint64_t *s, size_t n, const uint8_t *t, size_t k) {
 // How often a block takes its character c before the successor, which becomes that before the block: -1 the end, 2c + 1
 // just above c, 2c - 1 just below it.
 static inline uint64_t choose(int up, const uint64_t *w, int *succ, int *c) {
-    if (w[3] == 0) return 0;
-    *c = up ? (w[1] ? 127 - __builtin_clzll(w[1]) : 63 - __builtin_clzll(w[0])) : w[0] ? __builtin_ctzll(w[0]) : 64 + __builtin_ctzll(w[1]);
+    if (w[UPPER] == 0) return 0;
+    *c = up ? greatest_code(w) : least_code(w);
     int first = up ? 2 * *c > *succ : 2 * *c < *succ;
-    uint64_t count = first ? w[3] : w[2];
+    uint64_t count = first ? w[UPPER] : w[LOWER];
     if (count) *succ = first != up ? 2 * *c + 1 : 2 * *c - 1;
     return count;
 }
@@ -71,10 +101,10 @@ static inline uint64_t choose(int up, const uint64_t *w, int *succ, int *c) {
 static inline size_t extreme_text(int up, const uint64_t *s, size_t n, uint8_t *out) {
     size_t length = 0;
     int c, succ = -1;
-    for (size_t i = n; i > 0; i -= 4) length += choose(up, s + i - 4, &succ, &c);
+    for (size_t i = n; i > 0; i -= BLOCK) length += choose(up, s + i - BLOCK, &succ, &c);
     succ = -1;
-    for (size_t i = n, at = length; i > 0; i -= 4) {
-        uint64_t count = choose(up, s + i - 4, &succ, &c);
+    for (size_t i = n, at = length; i > 0; i -= BLOCK) {
+        uint64_t count = choose(up, s + i - BLOCK, &succ, &c);
         if (!count) continue;
         at -= count;
         memset(out + at, c, count);
@@ -89,7 +119,9 @@ static inline uint64_t checked_extreme(int up, const uint64_t *s, size_t n, uint
 
 uint64_t plain_least(const uint64_t *s, size_t n, uint8_t *out, size_t k) { return checked_extreme(0, s, n, out, k); }
 
-uint64_t plain_greatest(const uint64_t *s, size_t n, uint8_t *out, size_t k) { return checked_extreme(1, s, n, out, k); }
+uint64_t plain_greatest(const uint64_t *s, size_t n, uint8_t *out, size_t k) {
+    return checked_extreme(1, s, n, out, k);
+}
 
 size_t plain_extreme(int up, const uint64_t *s, size_t n, uint8_t *out) { return extreme_text(up, s, n, out); }
 
@@ -98,58 +130,57 @@ struct place {
     uint64_t block, offset;
 };
 
-static int meets(const uint64_t *a, const uint64_t *b) { return (a[0] & b[0]) || (a[1] & b[1]); }
-
 // Of checked shapes; whether there are places.
-static inline int sweep_shapes(const uint64_t *x, size_t nx, const uint64_t *y, size_t ny, uint64_t *out, uint64_t *made) {
-    uint64_t n = nx / 4, m = ny / 4, looks = 0;
+static inline int sweep_shapes(const uint64_t *x, size_t nx, const uint64_t *y, size_t ny, uint64_t *out,
+                               uint64_t *made) {
+    uint64_t n = nx / BLOCK, m = ny / BLOCK, looks = 0;
     struct place kept[32], at = {1, 0};
     for (uint64_t b = n; b-- > 0;) {
-        const uint64_t *s = x + 4 * b;
-        uint64_t left = s[3], i = at.block, o = at.offset;
+        const uint64_t *s = x + BLOCK * b;
+        uint64_t left = s[UPPER], i = at.block, o = at.offset;
         for (; i <= m; i++, o = 0) {
-            const uint64_t *t = y + 4 * (m - i);
+            const uint64_t *t = y + BLOCK * (m - i);
             looks++;
-            if (t[2] <= o) continue;
-            if (!meets(s, t)) break;
-            if (left < t[2] - o) {
+            if (t[LOWER] <= o) continue;
+            if (!shares(s, t)) break;
+            if (left < t[LOWER] - o) {
                 o += left;
                 break;
             }
-            left -= t[2] - o;
+            left -= t[LOWER] - o;
         }
         at.block = i;
         at.offset = o;
         if (i > m) kept[b] = (struct place){1, 0};
-        else kept[b] = (struct place){m + 1 - i, y[4 * (m - i) + 2] - o};
+        else kept[b] = (struct place){m + 1 - i, y[BLOCK * (m - i) + LOWER] - o};
     }
     *made = looks;
     if (kept[0].block != 1 || kept[0].offset != 0) return 0;
     struct place end = {1, 0}, start[32];
     for (uint64_t b = 0; b < n; b++) {
-        const uint64_t *s = x + 4 * b;
+        const uint64_t *s = x + BLOCK * b;
         struct place from = kept[b];
         if (from.block < end.block || (from.block == end.block && from.offset < end.offset)) from = end;
-        uint64_t left = s[2], i = from.block, o = from.offset;
+        uint64_t left = s[LOWER], i = from.block, o = from.offset;
         start[b] = from;
         while (left > 0 && i <= m) {
-            const uint64_t *t = y + 4 * (i - 1);
+            const uint64_t *t = y + BLOCK * (i - 1);
             looks++;
-            if (!meets(s, t)) {
-                int must = t[2] > o;
+            if (!shares(s, t)) {
+                int must = t[LOWER] > o;
                 i++;
                 o = 0;
                 if (must) {
                     start[b] = (struct place){i, 0};
-                    left = s[2];
+                    left = s[LOWER];
                 }
                 continue;
             }
-            if (left <= t[3] - o) {
+            if (left <= t[UPPER] - o) {
                 o += left;
                 left = 0;
             } else {
-                left -= t[3] - o;
+                left -= t[UPPER] - o;
                 i++;
                 o = 0;
             }
@@ -168,14 +199,14 @@ static inline int sweep_shapes(const uint64_t *x, size_t nx, const uint64_t *y, 
 
 uint64_t plain_sweep(const uint64_t *x, size_t nx, const uint64_t *y, size_t ny, uint64_t *out, size_t k) {
     uint64_t looks;
-    if (!plain_check(x, nx) || !plain_check(y, ny) || k < nx / 2) return 1000;
+    if (!plain_check(x, nx) || !plain_check(y, ny) || k < 2 * (nx / BLOCK)) return 1000;
     return sweep_shapes(x, nx, y, ny, out, &looks) ? looks : 100000;
 }
 
 // What is told of the numbers lent for a shape.
 static struct refusal check_lent(const uint64_t *s, size_t n, uint64_t number) {
     uint64_t block;
-    if (n % 4 != 0 || n == 0 || n > 128) return (struct refusal){1, number, 0};
+    if (n % BLOCK != 0 || n == 0 || n > SHAPE_MOST) return (struct refusal){1, number, 0};
     uint64_t wrong = check_blocks(s, n, &block);
     return (struct refusal){wrong, number, block};
 }
@@ -183,12 +214,12 @@ static struct refusal check_lent(const uint64_t *s, size_t n, uint64_t number) {
 // The record of a pair: its ranges, then its shapes, then the sweep.
 static struct answer judge(const uint64_t *blocks, size_t n, const uint64_t *p) {
     struct answer a = {REFUSED_PAIR, {14, 1, 0}, 0};
-    uint64_t whole = n / 4, out[64];
+    uint64_t whole = n / BLOCK, out[64];
     if (p[1] < p[0] || whole < p[1]) return a;
     a.refusal.text = 2;
     if (p[3] < p[2] || whole < p[3]) return a;
-    const uint64_t *x = blocks + 4 * p[0], *y = blocks + 4 * p[2];
-    size_t nx = 4 * (p[1] - p[0]), ny = 4 * (p[3] - p[2]);
+    const uint64_t *x = blocks + BLOCK * p[0], *y = blocks + BLOCK * p[2];
+    size_t nx = BLOCK * (p[1] - p[0]), ny = BLOCK * (p[3] - p[2]);
     a.refusal = check_lent(x, nx, 1);
     if (a.refusal.number) return a;
     a.refusal = check_lent(y, ny, 2);
@@ -208,47 +239,47 @@ uint64_t plain_tray(const uint64_t *blocks, size_t n, const uint64_t *pairs, siz
 // the padding for its base, and the position stays there however much of it is taken: the text goes on in padding while
 // the other's does.
 struct slot {
-    uint64_t low, high, lower, upper;
+    uint64_t base[WORDS], lower, upper;
 };
 
 static size_t lay(const uint64_t *s, size_t n, uint64_t pad, struct slot *to) {
     size_t p = 0;
-    for (size_t i = 0; i < n; i += 4)
-        for (uint64_t k = 0; k < s[i + 3]; k++) to[p++] = (struct slot){s[i], s[i + 1], s[i + 2] > k ? s[i + 2] - k : 0, s[i + 3] - k};
-    to[p] = (struct slot){pad, 0, 1, 0};
+    for (size_t i = 0; i < n; i += BLOCK)
+        for (uint64_t k = 0; k < s[i + UPPER]; k++, p++) {
+            memcpy(to[p].base, s + i, sizeof to[p].base);
+            to[p].lower = s[i + LOWER] > k ? s[i + LOWER] - k : 0;
+            to[p].upper = s[i + UPPER] - k;
+        }
+    to[p] = (struct slot){{pad}, 1, 0};
     return p;
 }
 
-static int shared(const struct slot *a, const struct slot *b) { return (a->low & b->low) || (a->high & b->high); }
-
 // Cell (i, j) of the own shape and the other: the table read as it is, or turned.
-static uint8_t cell(const uint8_t *t, int turned, size_t i, size_t j) { return turned ? t[j * 251 + i] : t[i * 251 + j]; }
+static uint8_t cell(const uint8_t *t, int turned, size_t i, size_t j) {
+    return turned ? t[j * 251 + i] : t[i * 251 + j];
+}
 
-static void side(const uint64_t *x, size_t nx, const struct slot *ys, size_t m, const uint8_t *t, int turned, uint64_t *out) {
+static void side(const uint64_t *x, size_t nx, const struct slot *ys, size_t m, const uint8_t *t, int turned,
+                 uint64_t *out) {
     size_t p = 0;
-    for (size_t i = 0; i < nx; i += 4) {
-        uint64_t low = 0, high = 0, least = 251, most = 0, u = x[i + 3];
-        struct slot own = {x[i], x[i + 1], 0, 0};
-        if (x[i + 2] == 0)
+    for (size_t i = 0; i < nx; i += BLOCK) {
+        uint64_t base[WORDS] = {0}, least = 251, most = 0, u = x[i + UPPER];
+        if (x[i + LOWER] == 0)
             for (size_t j = 0; j <= m; j++)
                 if ((cell(t, turned, p, j) & 2) && (cell(t, turned, p + u, j) & 1)) least = 0;
         for (uint64_t k = 0; k < u; k++)
             for (size_t j = 0; j <= m; j++) {
                 size_t on = j + (j < m);
-                if (!(cell(t, turned, p + k, j) & 2) || !shared(&own, &ys[j])) continue;
-                if (cell(t, turned, p + k + 1, on) & 1) {
-                    low |= own.low & ys[j].low;
-                    high |= own.high & ys[j].high;
-                }
-                if (k + 1 >= x[i + 2] && (cell(t, turned, p + u, on) & 1)) {
+                if (!(cell(t, turned, p + k, j) & 2) || !shares(x + i, ys[j].base)) continue;
+                if (cell(t, turned, p + k + 1, on) & 1) add_shared(base, x + i, ys[j].base);
+                if (k + 1 >= x[i + LOWER] && (cell(t, turned, p + u, on) & 1)) {
                     if (k + 1 < least) least = k + 1;
                     if (k + 1 > most) most = k + 1;
                 }
             }
-        out[i] = low;
-        out[i + 1] = high;
-        out[i + 2] = least;
-        out[i + 3] = most;
+        memcpy(out + i, base, sizeof base);
+        out[i + LOWER] = least;
+        out[i + UPPER] = most;
         p += u;
     }
 }
@@ -261,13 +292,14 @@ static inline void from_ends(const struct slot *xs, size_t n, const struct slot 
             int v = i == n && j == m;
             if (!v && own.lower == 0) v = t[(i + own.upper) * 251 + j];
             if (!v && ys[j].lower == 0) v = t[i * 251 + j + ys[j].upper];
-            if (!v && shared(&own, &ys[j])) v = t[(i + (i < n)) * 251 + j + (j < m)];
+            if (!v && shares(own.base, ys[j].base)) v = t[(i + (i < n)) * 251 + j + (j < m)];
             t[i * 251 + j] = v;
         }
     }
 }
 
-static uint64_t equal(uint64_t pad, const uint64_t *x, size_t nx, const uint64_t *y, size_t ny, uint8_t *t, uint64_t *ox, uint64_t *oy) {
+static uint64_t equal(uint64_t pad, const uint64_t *x, size_t nx, const uint64_t *y, size_t ny, uint8_t *t,
+                      uint64_t *ox, uint64_t *oy) {
     static struct slot xs[251], ys[251];
     size_t n = lay(x, nx, pad, xs), m = lay(y, ny, pad, ys);
     from_ends(xs, n, ys, m, t);
@@ -280,7 +312,7 @@ static uint64_t equal(uint64_t pad, const uint64_t *x, size_t nx, const uint64_t
                 if (!(t[i * 251 + j] & 2)) continue;
                 if (own.lower == 0) t[(i + own.upper) * 251 + j] |= 2;
                 if (ys[j].lower == 0) t[i * 251 + j + ys[j].upper] |= 2;
-                if (shared(&own, &ys[j])) t[(i + (i < n)) * 251 + j + (j < m)] |= 2;
+                if (shares(own.base, ys[j].base)) t[(i + (i < n)) * 251 + j + (j < m)] |= 2;
             }
         }
         side(x, nx, ys, m, t, 0, ox);
@@ -290,16 +322,19 @@ static uint64_t equal(uint64_t pad, const uint64_t *x, size_t nx, const uint64_t
     return some;
 }
 
-static uint64_t check_equal(uint64_t pad, const uint64_t *x, size_t nx, const uint64_t *y, size_t ny, uint8_t *t, size_t w, uint64_t *ox, size_t a, uint64_t *oy, size_t b) {
+static uint64_t check_equal(uint64_t pad, const uint64_t *x, size_t nx, const uint64_t *y, size_t ny, uint8_t *t,
+                            size_t w, uint64_t *ox, size_t a, uint64_t *oy, size_t b) {
     if (!plain_check(x, nx) || !plain_check(y, ny) || w < 63001 || a < nx || b < ny) return 1000;
     return equal(pad, x, nx, y, ny, t, ox, oy);
 }
 
-uint64_t plain_exact(const uint64_t *x, size_t nx, const uint64_t *y, size_t ny, uint8_t *t, size_t w, uint64_t *ox, size_t a, uint64_t *oy, size_t b) {
+uint64_t plain_exact(const uint64_t *x, size_t nx, const uint64_t *y, size_t ny, uint8_t *t, size_t w, uint64_t *ox,
+                     size_t a, uint64_t *oy, size_t b) {
     return check_equal(NOTHING, x, nx, y, ny, t, w, ox, a, oy, b);
 }
 
-uint64_t plain_padded(const uint64_t *x, size_t nx, const uint64_t *y, size_t ny, uint8_t *t, size_t w, uint64_t *ox, size_t a, uint64_t *oy, size_t b) {
+uint64_t plain_padded(const uint64_t *x, size_t nx, const uint64_t *y, size_t ny, uint8_t *t, size_t w, uint64_t *ox,
+                      size_t a, uint64_t *oy, size_t b) {
     return check_equal(BLANK, x, nx, y, ny, t, w, ox, a, oy, b);
 }
 
@@ -311,20 +346,29 @@ static void stop_runs(const struct slot *s, size_t n, uint8_t *set) {
 
 // The positions that one character more leads to.
 static void read_on(const struct slot *s, size_t n, int c, uint8_t *set) {
-    for (size_t p = n; p-- > 0;) set[p + 1] = set[p] && ((c < 64 ? s[p].low >> c : s[p].high >> (c - 64)) & 1);
+    for (size_t p = n; p-- > 0;) set[p + 1] = set[p] && holds(s[p].base, c);
     set[0] = 0;
     stop_runs(s, n, set);
 }
 
+// The least code that two bases share; CODES if there is none.
+static int least_shared(const uint64_t *a, const uint64_t *b) {
+    if (a[0] & b[0]) return __builtin_ctzll(a[0] & b[0]);
+    if (a[1] & b[1]) return 64 + __builtin_ctzll(a[1] & b[1]);
+    if (a[2] & b[2]) return 128 + __builtin_ctzll(a[2] & b[2]);
+    if (a[3] & b[3]) return 192 + __builtin_ctzll(a[3] & b[3]);
+    return CODES;
+}
+
 // The least character with which a text can go on to both ends from these positions.
-static int least_next(const struct slot *xs, size_t n, const struct slot *ys, size_t m, const uint8_t *t, const uint8_t *own, const uint8_t *other) {
-    int least = 128;
+static int least_next(const struct slot *xs, size_t n, const struct slot *ys, size_t m, const uint8_t *t,
+                      const uint8_t *own, const uint8_t *other) {
+    int least = CODES;
     for (size_t i = 0; i < n; i++) {
         if (!own[i]) continue;
         for (size_t j = 0; j < m; j++) {
             if (!other[j] || !t[(i + 1) * 251 + j + 1]) continue;
-            uint64_t low = xs[i].low & ys[j].low, high = xs[i].high & ys[j].high;
-            int c = low ? __builtin_ctzll(low) : high ? 64 + __builtin_ctzll(high) : 128;
+            int c = least_shared(xs[i].base, ys[j].base);
             if (c < least) least = c;
         }
     }
@@ -333,7 +377,8 @@ static int least_next(const struct slot *xs, size_t n, const struct slot *ys, si
 
 // The earliest common text: the table first, then character by character the positions that the text leads to in either
 // shape.
-uint64_t plain_common(const uint64_t *x, size_t nx, const uint64_t *y, size_t ny, uint8_t *t, size_t w, uint8_t *out, size_t k) {
+uint64_t plain_common(const uint64_t *x, size_t nx, const uint64_t *y, size_t ny, uint8_t *t, size_t w, uint8_t *out,
+                      size_t k) {
     if (!plain_check(x, nx) || !plain_check(y, ny) || w < 63001 || k < 250) return 1000;
     static struct slot xs[251], ys[251];
     uint8_t own[251] = {1}, other[251] = {1};
@@ -356,17 +401,19 @@ uint64_t plain_common(const uint64_t *x, size_t nx, const uint64_t *y, size_t ny
 // it downwards or (up) upwards, and in `lower` whether a text may end there.
 static void guide(int up, int strict, const uint8_t *text, size_t m, struct slot *next, struct slot *parts) {
     for (size_t q = 0; q < m; q++) {
-        unsigned __int128 one = (unsigned __int128)1 << text[q], part = up ? ~(one | (one - 1)) : one - 1;
-        next[q] = (struct slot){one, one >> 64, 0, 0};
-        parts[q] = (struct slot){part, part >> 64, !up, 0};
+        size_t c = text[q];
+        next[q] = parts[q] = (struct slot){{0}, !up, 0};
+        next[q].base[c / 64] = 1ull << (c % 64);
+        for (size_t w = 0; w < WORDS; w++) parts[q].base[w] = up ? ~ones(c + 1, 64 * w) : ones(c, 64 * w);
     }
     uint64_t any = up ? ~0ull : 0;
-    next[m] = (struct slot){0, 0, 0, 0};
-    parts[m] = (struct slot){any, any, !strict, 0};
+    next[m] = (struct slot){{0}, 0, 0};
+    parts[m] = (struct slot){{any, any, any, any}, !strict, 0};
 }
 
 // Whether a run of k characters from p can be, e being the place past the block.
-static int ends(const struct slot *own, const struct slot *next, size_t m, const uint8_t *t, size_t p, size_t e, size_t free, size_t k) {
+static int ends(const uint64_t *own, const struct slot *next, size_t m, const uint8_t *t, size_t p, size_t e,
+                size_t free, size_t k) {
     if (free <= p + k) return 1;
     if (k == 0) {
         for (size_t q = 0; q <= m; q++)
@@ -374,14 +421,15 @@ static int ends(const struct slot *own, const struct slot *next, size_t m, const
         return 0;
     }
     for (size_t q = 0; q < m; q++)
-        if (t[(p + k - 1) * 251 + q] == 2 && t[e * 251 + q + 1] && shared(own, &next[q])) return 1;
+        if (t[(p + k - 1) * 251 + q] == 2 && t[e * 251 + q + 1] && shares(own, next[q].base)) return 1;
     return 0;
 }
 
 // Narrows one shape by a fixed text with a byte table over positions and characters matched: 1 where some rest keeps to
 // the right side, 2 where also some start matches so far. From position `free` on a text may have parted, and then
 // anything goes.
-static int one_side(int up, int strict, const uint64_t *x, size_t nx, const uint8_t *text, size_t m, uint8_t *t, uint64_t *out) {
+static int one_side(int up, int strict, const uint64_t *x, size_t nx, const uint8_t *text, size_t m, uint8_t *t,
+                    uint64_t *out) {
     static struct slot xs[251], next[251], parts[251];
     size_t n = lay(x, nx, NOTHING, xs), p = 0, free;
     guide(up, strict, text, m, next, parts);
@@ -389,8 +437,8 @@ static int one_side(int up, int strict, const uint64_t *x, size_t nx, const uint
         struct slot own = xs[i];
         for (size_t q = m + 1; q-- > 0;) {
             int v = own.lower == 0 && t[(i + own.upper) * 251 + q];
-            if (!v && shared(&own, &next[q])) v = t[(i + 1) * 251 + q + 1];
-            if (!v) v = shared(&own, &parts[q]);
+            if (!v && shares(own.base, next[q].base)) v = t[(i + 1) * 251 + q + 1];
+            if (!v) v = shares(own.base, parts[q].base);
             if (!v && i == n) v = parts[q].lower;
             t[i * 251 + q] = v;
         }
@@ -403,41 +451,38 @@ static int one_side(int up, int strict, const uint64_t *x, size_t nx, const uint
             if (t[i * 251 + q] != 2) continue;
             size_t past = (i + own.upper) * 251 + q, on = (i + 1) * 251 + q + 1;
             if (own.lower == 0 && t[past]) t[past] = 2;
-            if (shared(&own, &next[q]) && t[on]) t[on] = 2;
+            if (shares(own.base, next[q].base) && t[on]) t[on] = 2;
         }
     }
     for (free = 1; free <= n; free++) {
         size_t q = 0, i = free - 1;
-        while (q <= m && !(t[i * 251 + q] == 2 && shared(&xs[i], &parts[q]))) q++;
+        while (q <= m && !(t[i * 251 + q] == 2 && shares(xs[i].base, parts[q].base))) q++;
         if (q <= m) break;
     }
-    for (size_t i = 0; i < nx; i += 4) {
-        uint64_t low = 0, high = 0, u = x[i + 3], least = x[i + 2], most = u;
-        struct slot own = {x[i], x[i + 1], 0, 0};
-        if (free < p + u) low = high = ~0ull;
+    for (size_t i = 0; i < nx; i += BLOCK) {
+        uint64_t base[WORDS] = {0}, u = x[i + UPPER], least = x[i + LOWER], most = u;
+        if (free < p + u) add(base, x + i);
         else
             for (size_t k = 0; k < u; k++)
                 for (size_t q = 0; q <= m; q++) {
                     if (t[(p + k) * 251 + q] != 2) continue;
-                    low |= parts[q].low;
-                    high |= parts[q].high;
-                    if (q == m || !t[(p + k + 1) * 251 + q + 1]) continue;
-                    low |= next[q].low;
-                    high |= next[q].high;
+                    add(base, parts[q].base);
+                    if (q < m && t[(p + k + 1) * 251 + q + 1]) add(base, next[q].base);
                 }
-        while (least < u && !ends(&own, next, m, t, p, p + u, free, least)) least++;
-        while (most > x[i + 2] && !ends(&own, next, m, t, p, p + u, free, most)) most--;
-        out[i] = own.low & low;
-        out[i + 1] = own.high & high;
-        out[i + 2] = least;
-        out[i + 3] = most;
+        while (least < u && !ends(x + i, next, m, t, p, p + u, free, least)) least++;
+        while (most > x[i + LOWER] && !ends(x + i, next, m, t, p, p + u, free, most)) most--;
+        cut(base, x + i);
+        memcpy(out + i, base, sizeof base);
+        out[i + LOWER] = least;
+        out[i + UPPER] = most;
         p += u;
     }
     return 1;
 }
 
 // X by the greatest text of Y, Y by the least text of X.
-static uint64_t order(int strict, const uint64_t *x, size_t nx, const uint64_t *y, size_t ny, uint8_t *t, size_t w, uint64_t *ox, size_t a, uint64_t *oy, size_t b) {
+static uint64_t order(int strict, const uint64_t *x, size_t nx, const uint64_t *y, size_t ny, uint8_t *t, size_t w,
+                      uint64_t *ox, size_t a, uint64_t *oy, size_t b) {
     if (!plain_check(x, nx) || !plain_check(y, ny) || w < 63001 || a < nx || b < ny) return 1000;
     uint8_t text[250];
     uint64_t some = one_side(0, strict, x, nx, text, extreme_text(1, y, ny, text), t, ox);
@@ -446,11 +491,13 @@ static uint64_t order(int strict, const uint64_t *x, size_t nx, const uint64_t *
     return some;
 }
 
-uint64_t plain_at_most(const uint64_t *x, size_t nx, const uint64_t *y, size_t ny, uint8_t *t, size_t w, uint64_t *ox, size_t a, uint64_t *oy, size_t b) {
+uint64_t plain_at_most(const uint64_t *x, size_t nx, const uint64_t *y, size_t ny, uint8_t *t, size_t w, uint64_t *ox,
+                       size_t a, uint64_t *oy, size_t b) {
     return order(0, x, nx, y, ny, t, w, ox, a, oy, b);
 }
 
-uint64_t plain_before(const uint64_t *x, size_t nx, const uint64_t *y, size_t ny, uint8_t *t, size_t w, uint64_t *ox, size_t a, uint64_t *oy, size_t b) {
+uint64_t plain_before(const uint64_t *x, size_t nx, const uint64_t *y, size_t ny, uint8_t *t, size_t w, uint64_t *ox,
+                      size_t a, uint64_t *oy, size_t b) {
     return order(1, x, nx, y, ny, t, w, ox, a, oy, b);
 }
 
@@ -458,37 +505,41 @@ uint64_t plain_before(const uint64_t *x, size_t nx, const uint64_t *y, size_t ny
 // 58.
 static void add_cases(const uint64_t *s, size_t n, uint64_t *wide) {
     memcpy(wide, s, n * sizeof *wide);
-    for (size_t j = 1; j < n; j += 4) wide[j] |= (s[j] >> 32 & 0x7fffffe) | (s[j] & 0x7fffffe) << 32;
+    for (size_t j = 1; j < n; j += BLOCK) wide[j] |= (s[j] >> 32 & 0x7fffffe) | (s[j] & 0x7fffffe) << 32;
 }
 
 static void cut_bases(const uint64_t *s, size_t n, uint64_t *out) {
-    for (size_t j = 0; j < n; j += 4) out[j] &= s[j], out[j + 1] &= s[j + 1];
+    for (size_t j = 0; j < n; j += BLOCK) cut(out + j, s + j);
 }
 
 // Equality but for letter case of checked shapes: to the letter with both cases, and what is left in the cases that the
 // shapes have.
-uint64_t run_any_case(narrowing_by_kind *narrow, const uint64_t *x, size_t nx, const uint64_t *y, size_t ny, uint8_t *t, uint64_t *ox, uint64_t *oy) {
-    uint64_t wide_x[128], wide_y[128];
+uint64_t run_any_case(narrowing_by_kind *narrow, const uint64_t *x, size_t nx, const uint64_t *y, size_t ny, uint8_t *t,
+                      uint64_t *ox, uint64_t *oy) {
+    uint64_t wide_x[SHAPE_MOST], wide_y[SHAPE_MOST];
     add_cases(x, nx, wide_x), add_cases(y, ny, wide_y);
     uint64_t some = narrow(4, wide_x, nx, wide_y, ny, t, ox, oy);
     if (some) cut_bases(x, nx, ox), cut_bases(y, ny, oy);
     return some;
 }
 
-uint64_t plain_any_case(const uint64_t *x, size_t nx, const uint64_t *y, size_t ny, uint8_t *t, size_t w, uint64_t *ox, size_t a, uint64_t *oy, size_t b) {
+uint64_t plain_any_case(const uint64_t *x, size_t nx, const uint64_t *y, size_t ny, uint8_t *t, size_t w, uint64_t *ox,
+                        size_t a, uint64_t *oy, size_t b) {
     if (!plain_check(x, nx) || !plain_check(y, ny) || w < 63001 || a < nx || b < ny) return 1000;
     return run_any_case(plain_by_kind, x, nx, y, ny, t, ox, oy);
 }
 
-uint64_t plain_by_kind(uint64_t kind, const uint64_t *x, size_t nx, const uint64_t *y, size_t ny, uint8_t *t, uint64_t *ox, uint64_t *oy) {
+uint64_t plain_by_kind(uint64_t kind, const uint64_t *x, size_t nx, const uint64_t *y, size_t ny, uint8_t *t,
+                       uint64_t *ox, uint64_t *oy) {
     if (kind == 5) return run_any_case(plain_by_kind, x, nx, y, ny, t, ox, oy);
     if (kind == 0 || kind == 4) return equal(kind == 0 ? BLANK : NOTHING, x, nx, y, ny, t, ox, oy);
     return order(kind == 2, x, nx, y, ny, t, 63001, ox, nx, oy, ny);
 }
 
 // A join of checked shapes: equality to the letter of the blocks of Y with those of Z behind them, up to 64, and X.
-uint64_t run_join(narrowing_by_kind *narrow, const uint64_t *x, size_t nx, const uint64_t *y, size_t ny, const uint64_t *z, size_t nz, uint8_t *t, uint64_t *ox, uint64_t *oy, uint64_t *oz) {
-    uint64_t both[256], out[256];
+uint64_t run_join(narrowing_by_kind *narrow, const uint64_t *x, size_t nx, const uint64_t *y, size_t ny,
+                  const uint64_t *z, size_t nz, uint8_t *t, uint64_t *ox, uint64_t *oy, uint64_t *oz) {
+    uint64_t both[2 * SHAPE_MOST], out[2 * SHAPE_MOST];
     memcpy(both, y, ny * sizeof *both);
     memcpy(both + ny, z, nz * sizeof *both);
     uint64_t some = narrow(4, both, ny + nz, x, nx, t, out, ox);
@@ -499,13 +550,15 @@ uint64_t run_join(narrowing_by_kind *narrow, const uint64_t *x, size_t nx, const
     return some;
 }
 
-uint64_t plain_join(const uint64_t *x, size_t nx, const uint64_t *y, size_t ny, const uint64_t *z, size_t nz, uint8_t *t, size_t w, uint64_t *ox, size_t a, uint64_t *oy, size_t b, uint64_t *oz, size_t c) {
+uint64_t plain_join(const uint64_t *x, size_t nx, const uint64_t *y, size_t ny, const uint64_t *z, size_t nz,
+                    uint8_t *t, size_t w, uint64_t *ox, size_t a, uint64_t *oy, size_t b, uint64_t *oz, size_t c) {
     if (!plain_check_join(x, nx, y, ny, z, nz, w, a, b, c)) return 1000;
     return run_join(plain_by_kind, x, nx, y, ny, z, nz, t, ox, oy, oz);
 }
 
 // The refusals of a book: 6, then those of the blocks text by text, 7 and 12 rule by rule, 4.
-struct refusal plain_check_book(const uint64_t *counts, size_t texts, const uint64_t *blocks, size_t nb, const uint64_t *rules, size_t nr, size_t w) {
+struct refusal plain_check_book(const uint64_t *counts, size_t texts, const uint64_t *blocks, size_t nb,
+                                const uint64_t *rules, size_t nr, size_t w) {
     struct refusal wrong = {6, 0, 0};
     uint64_t sum = 0, block, total[8];
     if (texts < 1 || texts > 8 || nr % 4 || nr > 64) return wrong;
@@ -513,27 +566,29 @@ struct refusal plain_check_book(const uint64_t *counts, size_t texts, const uint
         if (counts[k] < 1 || counts[k] > 32) return wrong;
         sum += counts[k];
     }
-    if (nb != 4 * sum) return wrong;
-    for (size_t k = 0; k < texts; blocks += 4 * counts[k++]) {
-        uint64_t number = check_blocks(blocks, 4 * counts[k], &block);
+    if (nb != BLOCK * sum) return wrong;
+    for (size_t k = 0; k < texts; blocks += BLOCK * counts[k++]) {
+        uint64_t number = check_blocks(blocks, BLOCK * counts[k], &block);
         if (number) return (struct refusal){number, k + 1, block};
-        total[k] = uppers(blocks, 4 * counts[k]);
+        total[k] = uppers(blocks, BLOCK * counts[k]);
     }
     for (size_t j = 0; j < nr; j += 4) {
         uint64_t kind = rules[j], a = rules[j + 1], b = rules[j + 2], c = rules[j + 3];
         int right = kind <= 5 && a >= 1 && a <= texts && b >= 1 && b <= texts && a != b;
-        if (!right || (kind == 3 ? c < 1 || c > texts || c == a || c == b : c != 0)) return (struct refusal){7, 0, j / 4 + 1};
+        if (!right || (kind == 3 ? c < 1 || c > texts || c == a || c == b : c != 0))
+            return (struct refusal){7, 0, j / 4 + 1};
         if (kind == 3 && total[b - 1] + total[c - 1] > 250) return (struct refusal){12, 0, j / 4 + 1};
     }
     return (struct refusal){w < 63001 ? 4 : 0, 0, 0};
 }
 
 // The rounds of a checked book, on a copy of the blocks.
-uint64_t run_rounds(narrowing_by_kind *narrow, const uint64_t *counts, size_t texts, uint64_t *blocks, size_t nb, const uint64_t *rules, size_t nr, uint8_t *t) {
-    uint64_t copy[1024], new[3][128], *at[9] = {copy}, made = 0;
+uint64_t run_rounds(narrowing_by_kind *narrow, const uint64_t *counts, size_t texts, uint64_t *blocks, size_t nb,
+                    const uint64_t *rules, size_t nr, uint8_t *t) {
+    uint64_t copy[BOOK_MOST], new[3][SHAPE_MOST], *at[9] = {copy}, made = 0;
     memcpy(copy, blocks, nb * sizeof *copy);
     memset(t, 0, 63001);
-    for (size_t k = 0; k < texts; k++) at[k + 1] = at[k] + 4 * counts[k];
+    for (size_t k = 0; k < texts; k++) at[k + 1] = at[k] + BLOCK * counts[k];
     for (int changed = 1; changed;) {
         changed = 0;
         for (size_t j = 0; j < nr; j += 4) {
@@ -543,9 +598,10 @@ uint64_t run_rounds(narrowing_by_kind *narrow, const uint64_t *counts, size_t te
             for (int k = 0; k < named; k++) {
                 uint64_t text = rules[j + 1 + k] - 1;
                 old[k] = at[text];
-                n[k] = 4 * counts[text];
+                n[k] = BLOCK * counts[text];
             }
-            if (named == 3) some = run_join(narrow, old[0], n[0], old[1], n[1], old[2], n[2], t, new[0], new[1], new[2]);
+            if (named == 3)
+                some = run_join(narrow, old[0], n[0], old[1], n[1], old[2], n[2], t, new[0], new[1], new[2]);
             else some = narrow(rules[j], old[0], n[0], old[1], n[1], t, new[0], new[1]);
             made++;
             if (some != 1) return made | NONE;
@@ -560,11 +616,13 @@ uint64_t run_rounds(narrowing_by_kind *narrow, const uint64_t *counts, size_t te
     return made;
 }
 
-uint64_t run_book(narrowing_by_kind *narrow, const uint64_t *counts, size_t texts, uint64_t *blocks, size_t nb, const uint64_t *rules, size_t nr, uint8_t *t, size_t w) {
+uint64_t run_book(narrowing_by_kind *narrow, const uint64_t *counts, size_t texts, uint64_t *blocks, size_t nb,
+                  const uint64_t *rules, size_t nr, uint8_t *t, size_t w) {
     if (plain_check_book(counts, texts, blocks, nb, rules, nr, w).number) return REFUSED;
     return run_rounds(narrow, counts, texts, blocks, nb, rules, nr, t);
 }
 
-uint64_t plain_book(const uint64_t *counts, size_t texts, uint64_t *blocks, size_t nb, const uint64_t *rules, size_t nr, uint8_t *t, size_t w) {
+uint64_t plain_book(const uint64_t *counts, size_t texts, uint64_t *blocks, size_t nb, const uint64_t *rules, size_t nr,
+                    uint8_t *t, size_t w) {
     return run_book(plain_by_kind, counts, texts, blocks, nb, rules, nr, t, w);
 }

@@ -17,7 +17,8 @@ static int word(struct reader *r, const char *w) {
 // A decimal up to 65,535 without needless zeros, and the byte after it.
 static int decimal(struct reader *r, uint8_t after, uint64_t *v) {
     const uint8_t *from = r->at;
-    for (*v = 0; r->at < r->end && *r->at >= '0' && *r->at <= '9' && r->at - from < 5; r->at++) *v = 10 * *v + *r->at - '0';
+    for (*v = 0; r->at < r->end && *r->at >= '0' && *r->at <= '9' && r->at - from < 5; r->at++)
+        *v = 10 * *v + *r->at - '0';
     if (r->at == from || *v > 65535 || (*from == '0' && r->at - from > 1)) return 0;
     if (r->at == r->end || *r->at != after) return 0;
     r->at++;
@@ -36,19 +37,46 @@ static int hex(struct reader *r, uint64_t *v) {
     return 1;
 }
 
-static int head(struct reader *r, const char *w, uint64_t most, uint64_t *n) { return word(r, w) && decimal(r, '\n', n) && *n <= most; }
+static int head(struct reader *r, const char *w, uint64_t most, uint64_t *n) {
+    return word(r, w) && decimal(r, '\n', n) && *n <= most;
+}
+
+// The two headings of a book's blocks, and how many words of a base are written below each.
+static const struct heading {
+    const char *word;
+    int words;
+} narrow_bases = {"BLOCKS ", WORDS / 2}, wide_bases = {"WIDE ", WORDS};
+
+// What is read of a file.
+struct book {
+    const struct heading *heading;
+    uint64_t texts, blocks, rules, count[8], block[BOOK_MOST], rule[64];
+};
+
+static int read_block(struct reader *r, int words, uint64_t *b) {
+    memset(b, 0, WORDS * sizeof *b);
+    for (int w = words; w-- > 0;)
+        if (!hex(r, &b[w])) return 0;
+    return word(r, " ") && decimal(r, ' ', &b[LOWER]) && decimal(r, '\n', &b[UPPER]);
+}
+
+static int read_rule(struct reader *r, uint64_t *rule) {
+    return decimal(r, ' ', &rule[0]) && decimal(r, ' ', &rule[1]) && decimal(r, ' ', &rule[2]) &&
+           decimal(r, '\n', &rule[3]);
+}
 
 // The three sections and nothing after them.
-static int book(struct reader *r, uint64_t *sizes, uint64_t *counts, uint64_t *blocks, uint64_t *rules) {
-    if (!head(r, "TEXTS ", 8, &sizes[0])) return 0;
-    for (size_t i = 0; i < sizes[0]; i++)
-        if (!decimal(r, '\n', &counts[i])) return 0;
-    if (!head(r, "BLOCKS ", 256, &sizes[1])) return 0;
-    for (size_t i = 0; i < 4 * sizes[1]; i += 4)
-        if (!hex(r, &blocks[i + 1]) || !hex(r, &blocks[i]) || !word(r, " ") || !decimal(r, ' ', &blocks[i + 2]) || !decimal(r, '\n', &blocks[i + 3])) return 0;
-    if (!head(r, "RULES ", 16, &sizes[2])) return 0;
-    for (size_t i = 0; i < 4 * sizes[2]; i += 4)
-        if (!decimal(r, ' ', &rules[i]) || !decimal(r, ' ', &rules[i + 1]) || !decimal(r, ' ', &rules[i + 2]) || !decimal(r, '\n', &rules[i + 3])) return 0;
+static int read_book(struct reader *r, struct book *b) {
+    if (!head(r, "TEXTS ", 8, &b->texts)) return 0;
+    for (size_t i = 0; i < b->texts; i++)
+        if (!decimal(r, '\n', &b->count[i])) return 0;
+    b->heading = r->at < r->end && *r->at == 'W' ? &wide_bases : &narrow_bases;
+    if (!head(r, b->heading->word, 256, &b->blocks)) return 0;
+    for (size_t i = 0; i < b->blocks; i++)
+        if (!read_block(r, b->heading->words, b->block + BLOCK * i)) return 0;
+    if (!head(r, "RULES ", 16, &b->rules)) return 0;
+    for (size_t i = 0; i < b->rules; i++)
+        if (!read_rule(r, b->rule + 4 * i)) return 0;
     return r->at == r->end;
 }
 
@@ -72,25 +100,30 @@ static uint8_t *put_hex(uint8_t *to, uint64_t n) {
     return to;
 }
 
+static uint8_t *put_block(uint8_t *to, int words, const uint64_t *b) {
+    for (int w = words; w-- > 0;) to = put_hex(to, b[w]);
+    *to++ = ' ';
+    return put_decimal(put_decimal(to, b[LOWER], ' '), b[UPPER], '\n');
+}
+
 uint64_t run_file(narrowing_by_kind *narrow, const uint8_t *file, size_t n, uint8_t *report, size_t k) {
     static uint8_t work[63001];
-    static uint64_t counts[8], blocks[1024], rules[64];
-    uint64_t sizes[3];
+    static struct book b;
     struct reader r = {file, file + n};
-    if (n > 16384 || !book(&r, sizes, counts, blocks, rules)) return REFUSED;
-    if (plain_check_book(counts, sizes[0], blocks, 4 * sizes[1], rules, 4 * sizes[2], sizeof work).number || k < 16384) return REFUSED;
-    uint64_t made = run_rounds(narrow, counts, sizes[0], blocks, 4 * sizes[1], rules, 4 * sizes[2], work);
+    if (n > FILE_MOST || !read_book(&r, &b)) return REFUSED;
+    size_t nb = BLOCK * b.blocks, nr = 4 * b.rules;
+    if (plain_check_book(b.count, b.texts, b.block, nb, b.rule, nr, sizeof work).number || k < REPORT_LEAST)
+        return REFUSED;
+    uint64_t made = run_rounds(narrow, b.count, b.texts, b.block, nb, b.rule, nr, work);
     if (made & NONE) return put_decimal(put(report, "NONE "), made ^ NONE, '\n') - report;
     uint8_t *to = put_decimal(put(report, "STABLE "), made, '\n');
-    to = put_decimal(put(to, "TEXTS "), sizes[0], '\n');
-    for (size_t i = 0; i < sizes[0]; i++) to = put_decimal(to, counts[i], '\n');
-    to = put_decimal(put(to, "BLOCKS "), sizes[1], '\n');
-    for (size_t i = 0; i < 4 * sizes[1]; i += 4) {
-        to = put_hex(put_hex(to, blocks[i + 1]), blocks[i]);
-        *to++ = ' ';
-        to = put_decimal(put_decimal(to, blocks[i + 2], ' '), blocks[i + 3], '\n');
-    }
+    to = put_decimal(put(to, "TEXTS "), b.texts, '\n');
+    for (size_t i = 0; i < b.texts; i++) to = put_decimal(to, b.count[i], '\n');
+    to = put_decimal(put(to, b.heading->word), b.blocks, '\n');
+    for (size_t i = 0; i < b.blocks; i++) to = put_block(to, b.heading->words, b.block + BLOCK * i);
     return to - report;
 }
 
-uint64_t plain_file(const uint8_t *file, size_t n, uint8_t *report, size_t k) { return run_file(plain_by_kind, file, n, report, k); }
+uint64_t plain_file(const uint8_t *file, size_t n, uint8_t *report, size_t k) {
+    return run_file(plain_by_kind, file, n, report, k);
+}

@@ -3,32 +3,44 @@
 #include "plain.h"
 #include <string.h>
 
-// Bit k of `a` stands for k, of `b` for 64 + k, of `c` for 128 + k, of `d` for 192 + k.
+// Bit k of `a` stands for k, of `b` for 64 + k, of `c` for 128 + k, of `d` for 192 + k. A base is a row of codes.
 struct row {
     uint64_t a, b, c, d;
 };
 
 static const struct row none = {0, 0, 0, 0};
 
-static inline struct row both(struct row r, struct row s) { return (struct row){r.a & s.a, r.b & s.b, r.c & s.c, r.d & s.d}; }
+static inline struct row row_of(const uint64_t *words) { return (struct row){words[0], words[1], words[2], words[3]}; }
 
-static inline struct row either(struct row r, struct row s) { return (struct row){r.a | s.a, r.b | s.b, r.c | s.c, r.d | s.d}; }
+static inline void put(uint64_t *words, struct row r) { memcpy(words, &r, sizeof r); }
 
-static inline struct row without(struct row r, struct row s) { return (struct row){r.a & ~s.a, r.b & ~s.b, r.c & ~s.c, r.d & ~s.d}; }
+static inline struct row both(struct row r, struct row s) {
+    return (struct row){r.a & s.a, r.b & s.b, r.c & s.c, r.d & s.d};
+}
 
-static inline struct row up(struct row r) { return (struct row){r.a << 1, r.b << 1 | r.a >> 63, r.c << 1 | r.b >> 63, r.d << 1 | r.c >> 63}; }
+static inline struct row either(struct row r, struct row s) {
+    return (struct row){r.a | s.a, r.b | s.b, r.c | s.c, r.d | s.d};
+}
 
-static inline struct row down(struct row r) { return (struct row){r.a >> 1 | r.b << 63, r.b >> 1 | r.c << 63, r.c >> 1 | r.d << 63, r.d >> 1}; }
+static inline struct row without(struct row r, struct row s) {
+    return (struct row){r.a & ~s.a, r.b & ~s.b, r.c & ~s.c, r.d & ~s.d};
+}
+
+static inline struct row up(struct row r) {
+    return (struct row){r.a << 1, r.b << 1 | r.a >> 63, r.c << 1 | r.b >> 63, r.d << 1 | r.c >> 63};
+}
+
+static inline struct row down(struct row r) {
+    return (struct row){r.a >> 1 | r.b << 63, r.b >> 1 | r.c << 63, r.c >> 1 | r.d << 63, r.d >> 1};
+}
 
 static inline int any(struct row r) { return (r.a | r.b | r.c | r.d) != 0; }
 
 static inline int meet(struct row r, struct row s) { return any(both(r, s)); }
 
-// The bits of the numbers below k in the word whose first number is w.
-static inline uint64_t ones(size_t k, size_t w) { return k <= w ? 0 : k >= w + 64 ? ~0ull : (1ull << (k - w)) - 1; }
-
 static inline struct row between(size_t from, size_t to) {
-    return (struct row){ones(from, 0) ^ ones(to, 0), ones(from, 64) ^ ones(to, 64), ones(from, 128) ^ ones(to, 128), ones(from, 192) ^ ones(to, 192)};
+    return (struct row){ones(from, 0) ^ ones(to, 0), ones(from, 64) ^ ones(to, 64), ones(from, 128) ^ ones(to, 128),
+                        ones(from, 192) ^ ones(to, 192)};
 }
 
 static inline struct row single(size_t k) { return between(k, k + 1); }
@@ -60,26 +72,23 @@ static inline size_t last(struct row r) {
 uint64_t rows_fits(const uint64_t *s, size_t n, const uint8_t *t, size_t k) {
     if (!plain_check(s, n)) return 1000;
     if (k > 250) return 0;
-    uint64_t places[128][4], has[2] = {0, 0}; // where the text has each of its characters
+    uint64_t places[CODES][4], has[WORDS] = {0}; // where the text has each of its characters
     struct row after = single(k);
     for (size_t p = 0; p < k; p++) {
         uint8_t c = t[p];
-        if (c >= 128) return 0;
-        if (!(has[c / 64] >> (c % 64) & 1)) memset(places[c], 0, sizeof places[c]);
+        if (!holds(has, c)) memset(places[c], 0, sizeof places[c]);
         has[c / 64] |= 1ull << (c % 64);
         places[c][p / 64] |= 1ull << (p % 64);
     }
-    for (size_t i = n; i > 0; i -= 4) {
-        const uint64_t *w = s + i - 4;
+    for (size_t i = n; i > 0; i -= BLOCK) {
+        const uint64_t *w = s + i - BLOCK;
         struct row held = none, run = after;
-        for (int h = 0; h < 2; h++)
-            for (uint64_t left = w[h] & has[h]; left; left &= left - 1) {
-                const uint64_t *of = places[64 * h + __builtin_ctzll(left)];
-                held = either(held, (struct row){of[0], of[1], of[2], of[3]});
-            }
+        for (int h = 0; h < WORDS; h++)
+            for (uint64_t left = w[h] & has[h]; left; left &= left - 1)
+                held = either(held, row_of(places[64 * h + __builtin_ctzll(left)]));
         after = none;
-        for (uint64_t c = 0; c <= w[3] && any(run); c++) {
-            if (c >= w[2]) after = either(after, run);
+        for (uint64_t c = 0; c <= w[UPPER] && any(run); c++) {
+            if (c >= w[LOWER]) after = either(after, run);
             run = both(down(run), held);
         }
     }
@@ -89,10 +98,8 @@ uint64_t rows_fits(const uint64_t *s, size_t n, const uint8_t *t, size_t k) {
 // ---- a mark sought in a shape: for each number of its characters that is matched, its state, the row of the lengths
 // of texts that lack it so far
 
-static inline int has(const uint64_t *base, uint8_t c) { return c < 128 && (base[c / 64] >> (c % 64) & 1); }
-
 // Which of the mark's starts each of them ends with, and the characters that lead from each to a state above 0.
-static void mark_borders(const uint8_t *mark, size_t m, uint64_t *same, uint64_t *borders, uint64_t (*seen)[2]) {
+static void mark_borders(const uint8_t *mark, size_t m, uint64_t *same, uint64_t *borders, uint64_t (*seen)[WORDS]) {
     for (size_t r = 0; r < m; r++) {
         same[r] = 0;
         for (size_t j = 0; j < m; j++) same[r] |= (uint64_t)(mark[j] == mark[r]) << j;
@@ -101,13 +108,15 @@ static void mark_borders(const uint8_t *mark, size_t m, uint64_t *same, uint64_t
     for (size_t q = 1; q < m; q++) borders[q] = (borders[q - 1] & same[q - 1]) << 1 | 1;
     for (size_t q = 0; q < m; q++) {
         uint64_t shorter = borders[q] & ~(1ull << q);
-        seen[q][0] = seen[q][1] = 0;
         if (shorter) memcpy(seen[q], seen[63 - __builtin_clzll(shorter)], sizeof seen[q]);
-        if (mark[q] < 128) seen[q][mark[q] / 64] |= 1ull << (mark[q] % 64);
+        else memset(seen[q], 0, sizeof seen[q]);
+        seen[q][mark[q] / 64] |= 1ull << (mark[q] % 64);
     }
 }
 
-static inline int leaves(const uint64_t *base, const uint64_t *seen) { return (base[0] & ~seen[0]) || (base[1] & ~seen[1]); }
+static inline int leaves(const uint64_t *base, const uint64_t *seen) {
+    return (base[0] & ~seen[0]) || (base[1] & ~seen[1]) || (base[2] & ~seen[2]) || (base[3] & ~seen[3]);
+}
 
 static uint64_t found(struct row hits, int lacks, size_t m) {
     if (!any(hits)) return 0;
@@ -119,7 +128,7 @@ static uint64_t found(struct row hits, int lacks, size_t m) {
 uint64_t spread_find(const uint64_t *s, size_t n, const uint8_t *mark, size_t m) {
     if (!plain_check(s, n) || m > 64) return 1000;
     if (m == 0) return 1001;
-    uint64_t same[64], borders[64], seen[64][2], on[64];
+    uint64_t same[64], borders[64], seen[64][WORDS], on[64];
     mark_borders(mark, m, same, borders, seen);
     for (size_t q = 0; q < m; q++) { // of the borders with one next character the greatest
         on[q] = 0;
@@ -132,14 +141,14 @@ uint64_t spread_find(const uint64_t *s, size_t n, const uint8_t *mark, size_t m)
     struct row rows[64], next[64], stops[64], hits = none;
     memset(rows, 0, m * sizeof *rows);
     rows[0].a = 1;
-    for (size_t i = 0; i < n; i += 4) {
+    for (size_t i = 0; i < n; i += BLOCK) {
         uint64_t to[64], allowed = 0;
         int back[64];
-        for (size_t r = 0; r < m; r++) allowed |= (uint64_t)has(s + i, mark[r]) << r;
+        for (size_t r = 0; r < m; r++) allowed |= (uint64_t)holds(s + i, mark[r]) << r;
         for (size_t q = 0; q < m; q++) to[q] = on[q] & allowed, back[q] = leaves(s + i, seen[q]);
         memset(stops, 0, m * sizeof *stops);
-        for (uint64_t o = 0; o < s[i + 3]; o++) {
-            if (o >= s[i + 2])
+        for (uint64_t o = 0; o < s[i + UPPER]; o++) {
+            if (o >= s[i + LOWER])
                 for (size_t q = 0; q < m; q++) stops[q] = either(stops[q], rows[q]);
             memset(next, 0, m * sizeof *next);
             for (size_t q = 0; q < m; q++) {
@@ -172,7 +181,7 @@ static inline struct row gather(const struct row *rows, uint64_t w) {
 uint64_t rows_find(const uint64_t *s, size_t n, const uint8_t *mark, size_t m) {
     if (!plain_check(s, n) || m > 64) return 1000;
     if (m == 0) return 1001;
-    uint64_t falls[64], borders[64], seen[64][2], live = 1;
+    uint64_t falls[64], borders[64], seen[64][WORDS], live = 1;
     mark_borders(mark, m, falls, borders, seen);
     for (size_t r = 0; r < m; r++) {
         uint64_t same = falls[r];
@@ -182,10 +191,11 @@ uint64_t rows_find(const uint64_t *s, size_t n, const uint8_t *mark, size_t m) {
     struct row rows[64], hits = none;
     memset(rows, 0, m * sizeof *rows);
     rows[0].a = 1;
-    for (size_t i = 0; i < n; i += 4) {
+    for (size_t i = 0; i < n; i += BLOCK) {
         uint64_t allowed = 0, back = 0;
-        for (size_t q = 0; q < m; q++) allowed |= (uint64_t)has(s + i, mark[q]) << q, back |= (uint64_t)leaves(s + i, seen[q]) << q;
-        for (uint64_t o = 0; o < s[i + 3] && live; o++) {
+        for (size_t q = 0; q < m; q++)
+            allowed |= (uint64_t)holds(s + i, mark[q]) << q, back |= (uint64_t)leaves(s + i, seen[q]) << q;
+        for (uint64_t o = 0; o < s[i + UPPER] && live; o++) {
             if (allowed >> (m - 1) & 1) hits = either(hits, up(rows[m - 1]));
             size_t end = 65 - __builtin_clzll(live);
             struct row last = none;
@@ -194,7 +204,7 @@ uint64_t rows_find(const uint64_t *s, size_t n, const uint8_t *mark, size_t m) {
                 struct row here = rows[t], come = none;
                 if (t == 0) come = up(gather(rows, back & live));
                 else if (allowed >> (t - 1) & 1) come = up(either(last, gather(rows, falls[t - 1] & live)));
-                rows[t] = o >= s[i + 2] ? either(come, here) : come;
+                rows[t] = o >= s[i + LOWER] ? either(come, here) : come;
                 next |= (uint64_t)any(rows[t]) << t;
                 last = here;
             }
@@ -222,35 +232,38 @@ static inline struct row plus(struct row r, struct row s) {
     return t;
 }
 
-static inline struct row differ(struct row r, struct row s) { return (struct row){r.a ^ s.a, r.b ^ s.b, r.c ^ s.c, r.d ^ s.d}; }
+static inline struct row differ(struct row r, struct row s) {
+    return (struct row){r.a ^ s.a, r.b ^ s.b, r.c ^ s.c, r.d ^ s.d};
+}
 
 // A shape laid out by position: of each block its positions, those where its run may end early (its zone), and the
 // position past it; all zones in one.
 struct laid {
     size_t blocks, total;
-    struct row slots[32], zones[32], ends[32], free, stops, spans[8]; // from where 1, 2, 4 .. free positions follow each other
-    int count;                                                        // of the spans, as many as the longest run of free positions wants
+    struct row slots[32], zones[32], ends[32], free, stops;
+    struct row spans[8]; // from where 1, 2, 4 .. free positions follow each other
+    int count;           // of the spans, as many as the longest run of free positions wants
 };
 
 static void lay(const uint64_t *s, size_t n, struct laid *to) {
     size_t p = 0;
     size_t run = 0, most = 0, at = 0;
     to->free = to->stops = none;
-    for (size_t j = 0; j < n / 4; j++) {
-        size_t e = p + s[4 * j + 3];
+    for (size_t j = 0; j < n / BLOCK; j++) {
+        size_t lower = s[BLOCK * j + LOWER], upper = s[BLOCK * j + UPPER], e = p + upper;
         to->slots[j] = between(p, e);
-        to->zones[j] = between(p + s[4 * j + 2], e);
+        to->zones[j] = between(p + lower, e);
         to->free = either(to->free, to->zones[j]);
         to->ends[j] = single(e);
-        if (s[4 * j + 2] < s[4 * j + 3]) {
+        if (lower < upper) {
             to->stops = either(to->stops, to->ends[j]);
-            run = (p + s[4 * j + 2] == at ? run : 0) + s[4 * j + 3] - s[4 * j + 2];
+            run = (p + lower == at ? run : 0) + upper - lower;
             at = e;
             if (run > most) most = run;
         }
         p = e;
     }
-    to->blocks = n / 4;
+    to->blocks = n / BLOCK;
     to->total = p;
     to->count = 0;
     struct row span = to->free;
@@ -282,10 +295,12 @@ done:
 }
 
 // The positions of the blocks that share a character with these.
-static inline struct row matching(const uint64_t *base, const uint64_t *y, const struct laid *laid) {
+static inline struct row matching(struct row base, const uint64_t *y, const struct laid *laid) {
     struct row r = none;
-    for (size_t j = 0; j < laid->blocks; j++)
-        if ((base[0] & y[4 * j]) || (base[1] & y[4 * j + 1])) r = either(r, laid->slots[j]);
+    for (size_t j = 0; j < laid->blocks; j++) {
+        const uint64_t *b = y + BLOCK * j;
+        if ((base.a & b[0]) || (base.b & b[1]) || (base.c & b[2]) || (base.d & b[3])) r = either(r, laid->slots[j]);
+    }
     return r;
 }
 
@@ -294,7 +309,7 @@ static inline struct row matching(const uint64_t *base, const uint64_t *y, const
 static void lengths(const uint64_t *y, const struct laid *laid, struct row moved, struct row ended, uint64_t *out) {
     size_t p = 0;
     for (size_t j = 0; j < laid->blocks; j++) {
-        uint64_t u = y[4 * j + 3], least = u ? 251 : 0, most = 0;
+        uint64_t u = y[BLOCK * j + UPPER], least = u ? 251 : 0, most = 0;
         struct row early = both(ended, laid->slots[j]);
         if (any(early)) {
             least = first(early) - p;
@@ -305,8 +320,8 @@ static void lengths(const uint64_t *y, const struct laid *laid, struct row moved
             if (u < least) least = u;
             most = u;
         }
-        out[4 * j + 2] = least;
-        out[4 * j + 3] = most;
+        out[BLOCK * j + LOWER] = least;
+        out[BLOCK * j + UPPER] = most;
     }
 }
 
@@ -316,7 +331,7 @@ static struct row trail(uint64_t pad, const uint64_t *y, const struct laid *laid
     for (size_t j = 0; j < laid->blocks; j++) {
         struct row here = both(r, laid->slots[j]);
         if (!any(here)) continue;
-        if (y[4 * j] & pad) r = either(r, without(either(laid->slots[j], laid->ends[j]), between(0, first(here))));
+        if (y[BLOCK * j] & pad) r = either(r, without(either(laid->slots[j], laid->ends[j]), between(0, first(here))));
         else if (meet(here, laid->zones[j])) r = either(r, laid->ends[j]);
     }
     return r;
@@ -324,31 +339,36 @@ static struct row trail(uint64_t pad, const uint64_t *y, const struct laid *laid
 
 // The same backwards from Y's end; `quit` gathers the zones that are let in, `taken` the positions where padding is
 // taken.
-static struct row trail_back(uint64_t pad, const uint64_t *y, const struct laid *laid, struct row *quit, struct row *taken) {
+static struct row trail_back(uint64_t pad, const uint64_t *y, const struct laid *laid, struct row *quit,
+                             struct row *taken) {
     struct row r = single(laid->total);
     for (size_t j = laid->blocks; j-- > 0;) {
         if (!meet(r, laid->ends[j])) continue;
         *quit = either(*quit, laid->zones[j]);
-        if (y[4 * j] & pad) *taken = either(*taken, laid->slots[j]);
+        if (y[BLOCK * j] & pad) *taken = either(*taken, laid->slots[j]);
         r = either(r, either(*quit, *taken));
     }
     return r;
 }
 
 // Where Y waits while block b of X takes a character: at its end, if that may be padding.
-static inline struct row waiting(uint64_t pad, const uint64_t *b, const struct laid *laid) { return b[0] & pad ? single(laid->total) : none; }
+static inline struct row waiting(uint64_t pad, const uint64_t *b, const struct laid *laid) {
+    return b[0] & pad ? single(laid->total) : none;
+}
 
 // Equality's first pass: for each position of X the row of the positions of Y that one text, but for padding, leads to
 // from the starts. Answers whether it leads to both ends.
-static int reach(uint64_t pad, const uint64_t *x, size_t nx, const uint64_t *y, const struct laid *laid, struct row *mines, struct row *rows) {
+static int reach(uint64_t pad, const uint64_t *x, size_t nx, const uint64_t *y, const struct laid *laid,
+                 struct row *mines, struct row *rows) {
     struct row r = single(0);
-    for (size_t i = 0; i < nx / 4; i++) {
-        struct row mine = matching(x + 4 * i, y, laid), waits = waiting(pad, x + 4 * i, laid), stopped = none;
+    for (size_t i = 0; i < nx / BLOCK; i++) {
+        struct row mine = matching(row_of(x + BLOCK * i), y, laid), waits = waiting(pad, x + BLOCK * i, laid);
+        struct row stopped = none;
         mines[i] = mine;
-        for (uint64_t o = 0; o < x[4 * i + 3]; o++) {
+        for (uint64_t o = 0; o < x[BLOCK * i + UPPER]; o++) {
             r = forward(laid, r);
             *rows++ = r;
-            if (o >= x[4 * i + 2]) stopped = either(stopped, r);
+            if (o >= x[BLOCK * i + LOWER]) stopped = either(stopped, r);
             r = either(up(both(r, mine)), both(r, waits));
         }
         r = either(r, stopped);
@@ -357,34 +377,39 @@ static int reach(uint64_t pad, const uint64_t *x, size_t nx, const uint64_t *y, 
     return meet(*rows, single(laid->total));
 }
 
+static inline void add(uint64_t *base, struct row more) { put(base, either(row_of(base), more)); }
+
 // The characters that block b takes beside Y at the positions `used`, for it and for the blocks of Y. At Y's end it
 // takes padding.
-static void give(uint64_t pad, const uint64_t *b, const uint64_t *y, const struct laid *laid, struct row used, uint64_t *own, uint64_t *other) {
-    own[0] = meet(used, single(laid->total)) ? b[0] & pad : 0;
-    own[1] = 0;
+static void give(uint64_t pad, const uint64_t *b, const uint64_t *y, const struct laid *laid, struct row used,
+                 uint64_t *own, uint64_t *other) {
+    struct row base = row_of(b), taken = none;
+    if (meet(used, single(laid->total))) taken.a = base.a & pad;
     for (size_t j = 0; j < laid->blocks; j++) {
         if (!meet(used, laid->slots[j])) continue;
-        uint64_t low = b[0] & y[4 * j], high = b[1] & y[4 * j + 1];
-        own[0] |= low;
-        own[1] |= high;
-        other[4 * j] |= low;
-        other[4 * j + 1] |= high;
+        struct row shared = both(base, row_of(y + BLOCK * j));
+        taken = either(taken, shared);
+        add(other + BLOCK * j, shared);
     }
+    put(own, taken);
 }
 
 // Equality's second pass, from the ends: its rows are not kept, since what each tells of the blocks is gathered on the
 // way.
-static void back(uint64_t pad, const uint64_t *x, size_t nx, const uint64_t *y, const struct laid *laid, const struct row *mines, const struct row *rows, uint64_t *ox, uint64_t *oy) {
+static void back(uint64_t pad, const uint64_t *x, size_t nx, const uint64_t *y, const struct laid *laid,
+                 const struct row *mines, const struct row *rows, uint64_t *ox, uint64_t *oy) {
     size_t p = 0;
-    for (size_t i = 0; i < nx; i += 4) p += x[i + 3];
-    struct row quit = none, taken = none, r = trail_back(pad, y, laid, &quit, &taken), ended = both(rows[p], quit), moved = both(rows[p], taken);
+    for (size_t i = 0; i < nx; i += BLOCK) p += x[i + UPPER];
+    struct row quit = none, taken = none, r = trail_back(pad, y, laid, &quit, &taken);
+    struct row ended = both(rows[p], quit), moved = both(rows[p], taken);
     for (size_t j = 0; j < laid->blocks; j++) {
-        oy[4 * j] = meet(moved, laid->slots[j]) ? y[4 * j] & pad : 0;
-        oy[4 * j + 1] = 0;
+        struct row padding = none;
+        if (meet(moved, laid->slots[j])) padding.a = y[BLOCK * j] & pad;
+        put(oy + BLOCK * j, padding);
     }
-    for (size_t i = nx / 4; i-- > 0;) {
-        uint64_t lower = x[4 * i + 2], upper = x[4 * i + 3], least = upper ? 251 : 0, most = 0;
-        struct row mine = mines[i], waits = waiting(pad, x + 4 * i, laid), stop = r, used = none;
+    for (size_t i = nx / BLOCK; i-- > 0;) {
+        uint64_t lower = x[BLOCK * i + LOWER], upper = x[BLOCK * i + UPPER], least = upper ? 251 : 0, most = 0;
+        struct row mine = mines[i], waits = waiting(pad, x + BLOCK * i, laid), stop = r, used = none;
         for (uint64_t o = upper; o-- > 0;) {
             struct row f = rows[--p], step = either(both(down(r), mine), both(r, waits)), here = both(f, step);
             used = either(used, here);
@@ -402,15 +427,16 @@ static void back(uint64_t pad, const uint64_t *x, size_t nx, const uint64_t *y, 
             ended = either(ended, both(f, quit));
         }
         moved = either(moved, used);
-        give(pad, x + 4 * i, y, laid, used, ox + 4 * i, oy);
-        ox[4 * i + 2] = least;
-        ox[4 * i + 3] = most;
+        give(pad, x + BLOCK * i, y, laid, used, ox + BLOCK * i, oy);
+        ox[BLOCK * i + LOWER] = least;
+        ox[BLOCK * i + UPPER] = most;
     }
     lengths(y, laid, moved, ended, oy);
 }
 
 // X may have up to 64 blocks.
-static uint64_t narrow_equal(uint64_t pad, const uint64_t *x, size_t nx, const uint64_t *y, size_t ny, uint64_t *ox, uint64_t *oy) {
+static uint64_t narrow_equal(uint64_t pad, const uint64_t *x, size_t nx, const uint64_t *y, size_t ny, uint64_t *ox,
+                             uint64_t *oy) {
     struct laid laid;
     struct row mines[64], rows[251];
     lay(y, ny, &laid);
@@ -421,17 +447,18 @@ static uint64_t narrow_equal(uint64_t pad, const uint64_t *x, size_t nx, const u
 
 // The pass from the ends that keeps its rows: for each position of X the row of the positions of Y from which one text
 // leads to both ends. Answers whether one does from the starts.
-static int from_ends(const uint64_t *x, size_t nx, const uint64_t *y, const struct laid *laid, struct row *mines, struct row *rows) {
+static int from_ends(const uint64_t *x, size_t nx, const uint64_t *y, const struct laid *laid, struct row *mines,
+                     struct row *rows) {
     size_t p = 0;
-    for (size_t i = 0; i < nx; i += 4) p += x[i + 3];
+    for (size_t i = 0; i < nx; i += BLOCK) p += x[i + UPPER];
     struct row quit = none, r = backward(laid, single(laid->total), &quit);
     rows[p] = r;
-    for (size_t i = nx / 4; i-- > 0;) {
-        struct row mine = matching(x + 4 * i, y, laid), stop = r;
+    for (size_t i = nx / BLOCK; i-- > 0;) {
+        struct row mine = matching(row_of(x + BLOCK * i), y, laid), stop = r;
         mines[i] = mine;
-        for (uint64_t o = x[4 * i + 3]; o-- > 0;) {
+        for (uint64_t o = x[BLOCK * i + UPPER]; o-- > 0;) {
             r = both(down(r), mine);
-            if (o >= x[4 * i + 2]) r = either(r, stop);
+            if (o >= x[BLOCK * i + LOWER]) r = either(r, stop);
             r = backward(laid, r, &quit);
             rows[--p] = r;
         }
@@ -455,30 +482,19 @@ static void start(struct side *s, const uint64_t *shape, size_t n) {
 
 // One character more; where it may stand is known if it is the same again.
 static inline void read_on(struct side *s, int again, size_t c) {
-    uint64_t base[2] = {c < 64 ? 1ull << c : 0, c < 64 ? 0 : 1ull << (c - 64)};
-    if (!again) s->takes = matching(base, s->shape, &s->laid);
+    if (!again) s->takes = matching(single(c), s->shape, &s->laid);
     s->row = up(both(s->row, s->takes));
     s->row = forward(&s->laid, s->row);
 }
 
-// A base, and the least character that two share; 128 if there is none.
-struct base {
-    uint64_t low, high;
-};
-
-static inline size_t least_shared(const uint64_t *b, struct base s) {
-    uint64_t low = b[0] & s.low, high = b[1] & s.high;
-    return low ? __builtin_ctzll(low) : high ? 64 + __builtin_ctzll(high) : 128;
-}
+// The least character that two bases share; CODES if there is none.
+static inline size_t least_shared(struct row b, struct row s) { return meet(b, s) ? first(both(b, s)) : CODES; }
 
 // The bases of Y at some of its positions, joined.
-static inline struct base joined(const struct side *y, struct row here) {
-    struct base s = {0, 0};
-    for (size_t j = 0; j < y->laid.blocks; j++) {
-        if (!meet(here, y->laid.slots[j])) continue;
-        s.low |= y->shape[4 * j];
-        s.high |= y->shape[4 * j + 1];
-    }
+static inline struct row joined(const struct side *y, struct row here) {
+    struct row s = none;
+    for (size_t j = 0; j < y->laid.blocks; j++)
+        if (meet(here, y->laid.slots[j])) s = either(s, row_of(y->shape + BLOCK * j));
     return s;
 }
 
@@ -490,10 +506,11 @@ struct found {
 
 // Block i of X, position by position, until no character that it has and that is near, at a position of Y that the text
 // leads to, would come sooner. What stands beside several positions is joined once.
-static inline struct found weigh_block(size_t i, const struct side *x, const struct side *y, struct base near, const struct row *mines, const struct row *rows, struct found f) {
+static inline struct found weigh_block(size_t i, const struct side *x, const struct side *y, struct row near,
+                                       const struct row *mines, const struct row *rows, struct found f) {
     struct row left = both(x->row, x->laid.slots[i]), open = both(y->row, mines[i]), seen = none;
     if (!any(left)) return f;
-    const uint64_t *b = x->shape + 4 * i;
+    struct row b = row_of(x->shape + BLOCK * i);
     size_t least = least_shared(b, near);
     for (; f.code > least && any(left); left = but_first(left)) {
         size_t p = first(left);
@@ -518,8 +535,8 @@ static uint64_t earliest(const uint64_t *x, size_t nx, const uint64_t *y, size_t
     if (!from_ends(x, nx, y, &other.laid, mines, rows)) return 2000;
     struct row end = single(own.laid.total), other_end = single(other.laid.total);
     while (!meet(own.row, end) || !meet(other.row, other_end)) {
-        struct found f = {128, own.row};
-        struct base near = {~0ull, ~0ull}; // not asked for where there is one position to weigh
+        struct found f = {CODES, own.row};
+        struct row near = {~0ull, ~0ull, ~0ull, ~0ull}; // not asked for where there is one position to weigh
         if (any(but_first(own.row))) near = joined(&other, other.row);
         for (size_t i = 0; i < own.laid.blocks; i++) f = weigh_block(i, &own, &other, near, mines, rows, f);
         int again = at > 0 && out[at - 1] == f.code;
@@ -536,34 +553,31 @@ static uint64_t earliest(const uint64_t *x, size_t nx, const uint64_t *y, size_t
 // may end here.
 struct stretch {
     size_t to;
-    uint64_t one[2], apart[2];
-    struct row stays, parts;
+    struct row one, apart, stays, parts;
     int ends;
 };
 
 // The stretch of place q, with the sets of positions that hold all along it.
-static struct stretch stretch_at(int upwards, int strict, const uint8_t *text, size_t m, size_t q, const uint64_t *x, const struct laid *laid) {
-    struct stretch s = {m + 1, {0, 0}, {0, 0}, none, none, !strict};
-    if (q == m) s.apart[0] = s.apart[1] = upwards ? ~0ull : 0;
-    else {
-        unsigned __int128 one = (unsigned __int128)1 << text[q], apart = upwards ? ~(one | (one - 1)) : one - 1;
-        for (s.to = q + 1; s.to < m && text[s.to] == text[q];) s.to++;
-        s = (struct stretch){s.to, {one, one >> 64}, {apart, apart >> 64}, none, none, !upwards};
+static struct stretch stretch_at(int upwards, int strict, const uint8_t *text, size_t m, size_t q, const uint64_t *x,
+                                 const struct laid *laid) {
+    struct stretch s = {m + 1, none, upwards ? between(0, CODES) : none, none, none, !strict};
+    if (q < m) {
+        size_t c = text[q];
+        for (s.to = q + 1; s.to < m && text[s.to] == c;) s.to++;
+        s.one = single(c);
+        s.apart = upwards ? between(c + 1, CODES) : between(0, c);
+        s.ends = !upwards;
     }
     s.stays = matching(s.one, x, laid);
     s.parts = matching(s.apart, x, laid);
     return s;
 }
 
-static void add(uint64_t *base, const uint64_t *more) {
-    base[0] |= more[0];
-    base[1] |= more[1];
-}
-
 // Narrows one shape by a fixed text. The first pass keeps for each place of the text the row of the positions reached
 // with exactly the characters before it matched, as far as any is; the second takes the rows of those from which some
 // rest keeps to the right side. Past the least position where a text has parted, everything goes.
-static uint64_t one_side(int upwards, int strict, const uint64_t *x, size_t nx, const uint8_t *text, size_t m, uint64_t *out) {
+static uint64_t one_side(int upwards, int strict, const uint64_t *x, size_t nx, const uint8_t *text, size_t m,
+                         uint64_t *out) {
     struct laid laid;
     struct stretch s[33];
     struct row rows[251], parted = none, moved = none, ended = none;
@@ -582,7 +596,7 @@ static uint64_t one_side(int upwards, int strict, const uint64_t *x, size_t nx, 
         n++;
     }
     if (!some && !any(parted)) return 0;
-    for (size_t j = 0; j < laid.blocks; j++) out[4 * j] = out[4 * j + 1] = 0;
+    for (size_t j = 0; j < laid.blocks; j++) put(out + BLOCK * j, none);
     r = none;
     while (n-- > 0) {
         struct row goal = s[n].ends ? either(s[n].parts, end) : s[n].parts, used = none, left = none;
@@ -594,30 +608,31 @@ static uint64_t one_side(int upwards, int strict, const uint64_t *x, size_t nx, 
             ended = either(ended, both(f, quit));
         }
         for (size_t j = 0; j < laid.blocks; j++) {
-            if (meet(used, laid.slots[j])) add(out + 4 * j, s[n].one);
-            if (meet(left, laid.slots[j])) add(out + 4 * j, s[n].apart);
+            if (meet(used, laid.slots[j])) add(out + BLOCK * j, s[n].one);
+            if (meet(left, laid.slots[j])) add(out + BLOCK * j, s[n].apart);
         }
         moved = either(moved, used);
     }
     struct row open = any(parted) ? between(first(parted), laid.total) : none, past = up(open);
     for (size_t j = 0; j < laid.blocks; j++) {
-        if (meet(past, laid.slots[j])) add(out + 4 * j, x + 4 * j);
+        struct row base = row_of(x + BLOCK * j);
+        put(out + BLOCK * j, meet(past, laid.slots[j]) ? base : both(base, row_of(out + BLOCK * j)));
         ended = either(ended, both(past, laid.zones[j]));
-        out[4 * j] &= x[4 * j];
-        out[4 * j + 1] &= x[4 * j + 1];
     }
     lengths(x, &laid, either(moved, open), ended, out);
     return 1;
 }
 
 // X by the greatest text of Y, Y by the least text of X.
-static uint64_t narrow_order(int strict, const uint64_t *x, size_t nx, const uint64_t *y, size_t ny, uint64_t *ox, uint64_t *oy) {
+static uint64_t narrow_order(int strict, const uint64_t *x, size_t nx, const uint64_t *y, size_t ny, uint64_t *ox,
+                             uint64_t *oy) {
     uint8_t text[250];
     if (!one_side(0, strict, x, nx, text, plain_extreme(1, y, ny, text), ox)) return 0;
     return one_side(1, strict, y, ny, text, plain_extreme(0, x, nx, text), oy);
 }
 
-static uint64_t by_kind(uint64_t kind, const uint64_t *x, size_t nx, const uint64_t *y, size_t ny, uint8_t *t, uint64_t *ox, uint64_t *oy) {
+static uint64_t by_kind(uint64_t kind, const uint64_t *x, size_t nx, const uint64_t *y, size_t ny, uint8_t *t,
+                        uint64_t *ox, uint64_t *oy) {
     (void)t; // the rows stand on the stack
     if (kind == 5) return run_any_case(by_kind, x, nx, y, ny, t, ox, oy);
     if (kind == 0 || kind == 4) return narrow_equal(kind == 0 ? BLANK : NOTHING, x, nx, y, ny, ox, oy);
@@ -625,46 +640,57 @@ static uint64_t by_kind(uint64_t kind, const uint64_t *x, size_t nx, const uint6
 }
 
 // The work buffer is not used, but handed back cleared as from every call.
-static uint64_t narrow(uint64_t kind, const uint64_t *x, size_t nx, const uint64_t *y, size_t ny, uint8_t *t, size_t w, uint64_t *ox, size_t a, uint64_t *oy, size_t b) {
+static uint64_t narrow(uint64_t kind, const uint64_t *x, size_t nx, const uint64_t *y, size_t ny, uint8_t *t, size_t w,
+                       uint64_t *ox, size_t a, uint64_t *oy, size_t b) {
     if (!plain_check(x, nx) || !plain_check(y, ny) || w < 63001 || a < nx || b < ny) return 1000;
     memset(t, 0, 63001);
     return by_kind(kind, x, nx, y, ny, t, ox, oy);
 }
 
-uint64_t rows_exact(const uint64_t *x, size_t nx, const uint64_t *y, size_t ny, uint8_t *t, size_t w, uint64_t *ox, size_t a, uint64_t *oy, size_t b) {
+uint64_t rows_exact(const uint64_t *x, size_t nx, const uint64_t *y, size_t ny, uint8_t *t, size_t w, uint64_t *ox,
+                    size_t a, uint64_t *oy, size_t b) {
     return narrow(4, x, nx, y, ny, t, w, ox, a, oy, b);
 }
 
-uint64_t rows_padded(const uint64_t *x, size_t nx, const uint64_t *y, size_t ny, uint8_t *t, size_t w, uint64_t *ox, size_t a, uint64_t *oy, size_t b) {
+uint64_t rows_padded(const uint64_t *x, size_t nx, const uint64_t *y, size_t ny, uint8_t *t, size_t w, uint64_t *ox,
+                     size_t a, uint64_t *oy, size_t b) {
     return narrow(0, x, nx, y, ny, t, w, ox, a, oy, b);
 }
 
-uint64_t rows_any_case(const uint64_t *x, size_t nx, const uint64_t *y, size_t ny, uint8_t *t, size_t w, uint64_t *ox, size_t a, uint64_t *oy, size_t b) {
+uint64_t rows_any_case(const uint64_t *x, size_t nx, const uint64_t *y, size_t ny, uint8_t *t, size_t w, uint64_t *ox,
+                       size_t a, uint64_t *oy, size_t b) {
     return narrow(5, x, nx, y, ny, t, w, ox, a, oy, b);
 }
 
-uint64_t rows_at_most(const uint64_t *x, size_t nx, const uint64_t *y, size_t ny, uint8_t *t, size_t w, uint64_t *ox, size_t a, uint64_t *oy, size_t b) {
+uint64_t rows_at_most(const uint64_t *x, size_t nx, const uint64_t *y, size_t ny, uint8_t *t, size_t w, uint64_t *ox,
+                      size_t a, uint64_t *oy, size_t b) {
     return narrow(1, x, nx, y, ny, t, w, ox, a, oy, b);
 }
 
-uint64_t rows_before(const uint64_t *x, size_t nx, const uint64_t *y, size_t ny, uint8_t *t, size_t w, uint64_t *ox, size_t a, uint64_t *oy, size_t b) {
+uint64_t rows_before(const uint64_t *x, size_t nx, const uint64_t *y, size_t ny, uint8_t *t, size_t w, uint64_t *ox,
+                     size_t a, uint64_t *oy, size_t b) {
     return narrow(2, x, nx, y, ny, t, w, ox, a, oy, b);
 }
 
-uint64_t rows_join(const uint64_t *x, size_t nx, const uint64_t *y, size_t ny, const uint64_t *z, size_t nz, uint8_t *t, size_t w, uint64_t *ox, size_t a, uint64_t *oy, size_t b, uint64_t *oz, size_t c) {
+uint64_t rows_join(const uint64_t *x, size_t nx, const uint64_t *y, size_t ny, const uint64_t *z, size_t nz, uint8_t *t,
+                   size_t w, uint64_t *ox, size_t a, uint64_t *oy, size_t b, uint64_t *oz, size_t c) {
     if (!plain_check_join(x, nx, y, ny, z, nz, w, a, b, c)) return 1000;
     memset(t, 0, 63001);
     return run_join(by_kind, x, nx, y, ny, z, nz, t, ox, oy, oz);
 }
 
-uint64_t rows_common(const uint64_t *x, size_t nx, const uint64_t *y, size_t ny, uint8_t *t, size_t w, uint8_t *out, size_t k) {
+uint64_t rows_common(const uint64_t *x, size_t nx, const uint64_t *y, size_t ny, uint8_t *t, size_t w, uint8_t *out,
+                     size_t k) {
     if (!plain_check(x, nx) || !plain_check(y, ny) || w < 63001 || k < 250) return 1000;
     memset(t, 0, 63001);
     return earliest(x, nx, y, ny, out);
 }
 
-uint64_t rows_book(const uint64_t *counts, size_t texts, uint64_t *blocks, size_t nb, const uint64_t *rules, size_t nr, uint8_t *t, size_t w) {
+uint64_t rows_book(const uint64_t *counts, size_t texts, uint64_t *blocks, size_t nb, const uint64_t *rules, size_t nr,
+                   uint8_t *t, size_t w) {
     return run_book(by_kind, counts, texts, blocks, nb, rules, nr, t, w);
 }
 
-uint64_t rows_file(const uint8_t *file, size_t n, uint8_t *report, size_t k) { return run_file(by_kind, file, n, report, k); }
+uint64_t rows_file(const uint8_t *file, size_t n, uint8_t *report, size_t k) {
+    return run_file(by_kind, file, n, report, k);
+}

@@ -18,7 +18,7 @@ static const char *meaning(int64_t number) {
     case 6: return "no texts, a text of no blocks or of more than 32, or more or fewer blocks than the texts have together";
     case 7: return "a rule's kind, or a text that it names, is wrong";
     case 8: return "a line is not as it has to be, is missing, or is one too many";
-    case 9: return "the book has more than 16,384 bytes";
+    case 9: return "the book has more than 32,768 bytes";
     case 10: return "a block's greatest count is above 250";
     case 11: return "a block's characters and its greatest count disagree";
     case 12: return "a rule joins two texts whose greatest counts add to more than 250";

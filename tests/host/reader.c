@@ -8,7 +8,8 @@
 #define PAINTED 4096
 
 #define LONGEST_INPUT 4194304
-#define MOST_NUMBERS 256
+#define MOST_NUMBERS 320
+#define BLOCK 6
 #define MOST_BLOCKS 32
 #define LONGEST_OUTPUT 512
 #define REFUSED 1000
@@ -45,8 +46,8 @@ static void run(int greatest, const uint64_t *shape, size_t n, size_t k) {
         note(&refused, used);
         to += snprintf(to, 32, "refused ");
     } else {
-        if (n % 4 != 0 || n / 4 > MOST_BLOCKS) FAIL("a text of %zu numbers", n);
-        note(&taken[greatest][n / 4], used);
+        if (n % BLOCK != 0 || n / BLOCK > MOST_BLOCKS) FAIL("a text of %zu numbers", n);
+        note(&taken[greatest][n / BLOCK], used);
         to += snprintf(to, 32, "text %lu ", answer);
     }
     for (size_t i = 0; i < k; i++) to = hex_pair(to, out[i]);
@@ -76,9 +77,10 @@ static size_t cases(void) {
 
 int main(void) {
     // Once before, since a first call may have to find what the C library has for it.
-    uint64_t shape[] = {0, 1, 1, 1};
+    uint64_t shape[BLOCK] = {0, 1, 0, 0, 1, 1};
     uint8_t out[250];
-    if (wedgeotter_least(shape, 4, out, 250) != 1 || wedgeotter_greatest(shape, 4, out, 250) != 1) FAIL("the reader cannot call");
+    if (wedgeotter_least(shape, BLOCK, out, 250) != 1 || wedgeotter_greatest(shape, BLOCK, out, 250) != 1)
+        FAIL("the reader cannot call");
 
     size_t count = cases(), most = refused;
     for (int greatest = 0; greatest < 2; greatest++)

@@ -4,16 +4,17 @@ from itertools import product
 
 from bounds import bound, earlier, fits
 from making import (
-    ONE_EACH, TWO_BAD, Dice, block, hexes, hold_lines_to_room, hold_to_ways, large_shape, many_blocks, numbers_read,
+    ALPHABETS, HIGH_ALPHABETS, LARGE_ALPHABETS, LARGE_HIGH_ALPHABETS, OLD_SHAPES, ONE_EACH, TWO_BAD, WORD_ENDS, Dice,
+    block, hexes, high_unsound_blocks, hold_lines_to_room, hold_to_ways, large_shape, many_blocks, numbers_read,
     random_filling, random_text, small_shape, unsound_blocks, written,
 )
-from shapes import FEW_FILLINGS, Refused, agree, all_texts, fillings, shape_of
+from shapes import ALL_CODES, BLOCK_SIZE, FEW_FILLINGS, Refused, agree, all_texts, fillings, shape_of
 
 OUTPUT_WANTED = 250
 FILLER = 0xA5
 
 # What the program has room for.
-MOST_WORDS = 200
+MOST_WORDS = 300
 LONGEST_TEXT = 400
 LONGEST_OUTPUT = 300
 
@@ -139,8 +140,12 @@ def limit_cases(cases):
     # Blocks: 1 to 32, and lengths that are no whole blocks.
     for count in (1, 2, 31, 32, 33, 34, 50):
         cases.all(many_blocks(count, 2 * count))
-    for length in (0, 1, 2, 3, 5, 6, 7, 126, 127, 129, 130, 131, 133, 199):
+    for length in (*range(6), *range(7, 12), 190, 191, *range(193, 198), 199, 299):
         cases.all(many_blocks(50, 100)[:length])
+    for length in (12, 16, 20, 24, 124, 128, 132, 192, 198, 264):
+        cases.check(many_blocks(50, 100)[:length])
+    for words in OLD_SHAPES:
+        cases.check(words)
     # A single upper.
     for upper in (0, 1, 249, 250, 251, 252):
         for lower in (0, 1, 249, 250, 251):
@@ -169,7 +174,7 @@ def refusal_cases(cases):
     for shape in TWO_BAD:
         cases.all(shape)
         cases.all(good + shape)
-        cases.check(shape[:4] + good * 30 + shape[4:])
+        cases.check(shape[:BLOCK_SIZE] + good * 30 + shape[BLOCK_SIZE:])
         cases.check(good * 30 + shape)
     for bad in unsound_blocks():
         cases.all(bad)
@@ -204,7 +209,7 @@ def refusal_cases(cases):
     cases.all(block(b"A", 2**63, 2**63) + block(b"B", 2**63, 2**63))
 
 
-# The least and greatest codes of both numbers of a base, and bytes that are no characters.
+# The least and greatest codes of the first two numbers of a base, and of all four.
 EDGE_CODES = (0, 1, 62, 63, 64, 65, 126, 127)
 EDGE_BYTES = (0, 1, 62, 63, 64, 65, 126, 127, 128, 129, 191, 192, 254, 255)
 
@@ -289,11 +294,10 @@ def picked_cases(cases):
                 cases.fit(bytes(text), words)
 
 
-def small_cases(cases):
-    dice = Dice(1)
+def small_cases(cases, dice, count, alphabets=ALPHABETS):
     made = 0
-    while made < 600:
-        codes, words = small_shape(dice)
+    while made < count:
+        codes, words = small_shape(dice, alphabets)
         shape = shape_of(words)
         if fillings(shape) > FEW_FILLINGS:
             continue
@@ -305,14 +309,52 @@ def small_cases(cases):
         cases.bounds(words)
 
 
-def large_cases(cases):
-    dice = Dice(2)
-    for _ in range(40):
-        codes, words = large_shape(dice)
+def large_cases(cases, dice, count, alphabets=LARGE_ALPHABETS):
+    for _ in range(count):
+        codes, words = large_shape(dice, alphabets)
         text = random_filling(dice, shape_of(words))
         cases.fit(text, words)
         cases.fit(nearly(dice, text, codes), words)
         cases.bounds(words)
+
+
+def high_cases(cases):
+    """Codes above 127: at the ends of every number of a base, alone, beside their neighbours and among all."""
+    for base in ([128], [191], [192], [255], *(range(code - 1, min(code + 2, 256)) for code in WORD_ENDS)):
+        words = block(base, 1, 2)
+        cases.check(words)
+        cases.bounds(words)
+        for byte in EDGE_BYTES:
+            cases.fit(bytes([byte]), words)
+    bases = [ALL_CODES, range(128, 256), range(128, 192), range(192, 256), (0, 255), (128, 192)]
+    # They would meet if their third and fourth number were exchanged in one of them.
+    bases += [(129, 192), (128, 193)]
+    for base in bases:
+        words = block(base, 0, 3)
+        cases.all(words)
+        cases.bounds(block([191], 0, 1) + block(base, 2, 3))
+        for byte in EDGE_BYTES:
+            cases.fit(bytes([base[0], byte]), words)
+    # Every code alone, and one with its bit in another number of the base.
+    for code in range(128, 256):
+        cases.fit(bytes([code]), block([code], 1, 1))
+        cases.fit(bytes([code]), block([code ^ (64, 128, 192)[code % 3]], 1, 1))
+    # In long texts.
+    for byte in (128, 192, 255):
+        for at in (0, 249):
+            text = bytearray(b"q" * 250)
+            text[at] = byte
+            cases.fit(bytes(text), block(ALL_CODES, 0, 250))
+    cases.fit(bytes(ALL_CODES[-250:]), block(ALL_CODES, 250, 250))
+    cases.fit(bytes(ALL_CODES[-250:]), block(ALL_CODES[:-1], 250, 250))
+    for one, other in product(WORD_ENDS, repeat=2):
+        cases.earlier(bytes([one]), bytes([other]))
+    good = block([128], 0, 3)
+    for bad in high_unsound_blocks():
+        cases.all(bad)
+        cases.check(good + bad + good)
+    for bad in (block([128], 2, 1), block([255], 0, 251)):
+        cases.all(good + bad)
 
 
 def all_cases():
@@ -323,8 +365,11 @@ def all_cases():
     code_cases(cases)
     order_cases(cases)
     picked_cases(cases)
-    small_cases(cases)
-    large_cases(cases)
+    small_cases(cases, Dice(1), 600)
+    large_cases(cases, Dice(2), 40)
+    high_cases(cases)
+    small_cases(cases, Dice(4), 30, HIGH_ALPHABETS)
+    large_cases(cases, Dice(5), 5, LARGE_HIGH_ALPHABETS)
     return cases.lines
 
 

@@ -3,16 +3,19 @@
 from itertools import permutations, product
 
 from making import (
-    CASE_ALPHABETS, ONE_EACH, TWO_BAD, Dice, block, carved, counted, hexes, hold_numbers_to_room, large_shape,
-    lists_read, many_blocks, numbers_read, padded_anew, random_filling, random_text, recased, shared_out, small_blocks,
-    unsound_blocks, words_of, written,
+    CASE_ALPHABETS, HIGH_ALPHABETS, HIGH_CASE_ALPHABETS, ONE_EACH, TWO_BAD, WORD_ENDS, Dice, block, carved, counted,
+    hexes, high_unsound_blocks, hold_numbers_to_room, large_shape, lists_read, many_blocks, numbers_read, padded_anew,
+    random_filling, random_text, recased, shared_out, small_blocks, unsound_blocks, words_of, written,
 )
 from joins import JOIN, narrowed_join
 from narrow import LONGEST_WORK, TOGETHER, work_shown
 from pairs import (
     ANY_CASE, AT_MOST, BEFORE, CASED_EQUALITIES, CASED_KINDS, EQUAL, EQUALITIES, EXACT, HOLDS, KINDS, narrowed,
 )
-from shapes import BLANK, MOST_BLOCKS, WORK_WANTED, Refused, agree, all_texts, fillings, shape_of, too_long, total
+from shapes import (
+    ALL_CODES, BLANK, BLOCK_SIZE, MOST_BLOCKS, WORK_WANTED, Refused, agree, all_texts, fillings, shape_of, too_long,
+    total,
+)
 
 MOST_TEXTS = 8
 MOST_RULES = 16
@@ -22,7 +25,7 @@ FEW_BOOKS = 3000
 FEW_FILLINGS = 300
 
 # What the program has room for.
-MOST_NUMBERS = 1200
+MOST_NUMBERS = 1600
 
 
 # Rules. They are four numbers, the fourth 0 except in a join.
@@ -65,12 +68,12 @@ def book_of(counts, words, rules):
     """The shapes and the rules, refused in the documents' order but for the work buffer."""
     if not 1 <= len(counts) <= MOST_TEXTS or not all(1 <= count <= MOST_BLOCKS for count in counts):
         raise Refused(6, 0, 0)
-    if len(words) != 4 * sum(counts) or len(rules) % RULE_SIZE != 0 or len(rules) > RULE_SIZE * MOST_RULES:
+    if len(words) != BLOCK_SIZE * sum(counts) or len(rules) % RULE_SIZE != 0 or len(rules) > RULE_SIZE * MOST_RULES:
         raise Refused(6, 0, 0)
     shapes, at = [], 0
     for text, count in enumerate(counts, 1):
-        shapes.append(shape_of(words[at : at + 4 * count], text))
-        at += 4 * count
+        shapes.append(shape_of(words[at : at + BLOCK_SIZE * count], text))
+        at += BLOCK_SIZE * count
     fours = [tuple(rules[at : at + RULE_SIZE]) for at in range(0, len(rules), RULE_SIZE)]
     for place, rule in enumerate(fours, 1):
         if wrong_rule(rule, len(counts)):
@@ -134,8 +137,8 @@ def expected_line(line):
             hold_to_laws(shapes, fours, final)
         head = f"none {applications}" if final is None else f"stable {applications}"
         for at, shape in enumerate(final or ()):
-            start = 4 * sum(counts[:at])
-            words[start : start + 4 * len(shape)] = words_of(shape)
+            start = BLOCK_SIZE * sum(counts[:at])
+            words[start : start + BLOCK_SIZE * len(shape)] = words_of(shape)
     except Refused as refusal:
         head = refusal.line
     return " ".join([head, *hexes(words), work_shown(work, accepted)])
@@ -156,7 +159,7 @@ class Cases:
     def book(self, texts, rules, work=WORK_WANTED):
         """A case of texts, each a shape's numbers, and rules, each as `four` takes it."""
         words = [word for text in texts for word in text]
-        self.lent([len(text) // 4 for text in texts], words, [n for rule in rules for n in four(rule)], work)
+        self.lent([len(text) // BLOCK_SIZE for text in texts], words, [n for rule in rules for n in four(rule)], work)
 
 
 def hold_run_to_answer(what, texts, rules, final, applications):
@@ -351,7 +354,7 @@ def join_book(dice, tiny=False):
     texts = [[]] * len(stems)
     for place, stem in zip(places, stems):
         text = carved(dice, codes, stem, dice.between(1, 2 if tiny else 3)) if kept else small_blocks(dice, codes)
-        texts[place] = text[:8] if tiny else text
+        texts[place] = text[: 2 * BLOCK_SIZE] if tiny else text
     return texts, shuffled(dice, [(rule[0], *(places[text - 1] + 1 for text in rule[1:])) for rule in rules])
 
 
@@ -397,10 +400,10 @@ def random_book(dice):
     return texts, rules
 
 
-WIDE_ALPHABETS = ((0, 1), (0, 1), (31, BLANK), (BLANK, 33))
+CHAIN_ALPHABETS = ((0, 1), (0, 1), (31, BLANK), (BLANK, 33))
 
 
-def wide_book(dice, alphabets=WIDE_ALPHABETS, kinds=CASED_KINDS, equalities=CASED_EQUALITIES):
+def chain_book(dice, alphabets=CHAIN_ALPHABETS, kinds=CASED_KINDS, equalities=CASED_EQUALITIES):
     """Wide texts in a chain, sometimes closed to a cycle, the rules in any order: each round takes little away."""
     count = dice.between(2, 6)
     low, high = dice.pick(alphabets)
@@ -428,7 +431,7 @@ def shuffled(dice, rules):
 def random_cases(cases):
     dice = Dice(31)
     for number in range(700):
-        texts, rules = wide_book(dice) if number % 5 < 2 else random_book(dice)
+        texts, rules = chain_book(dice) if number % 5 < 2 else random_book(dice)
         cases.book(texts, rules, LONGEST_WORK if number % 50 == 0 else WORK_WANTED)
         if number % 3 == 0 and len(rules) > 1:
             cases.book(texts, shuffled(dice, rules))
@@ -485,13 +488,19 @@ def count_cases(cases):
         wrong.append(([count], good * min(count, 34), []))
         wrong.append(([1, count], good * (1 + min(count, 34)), []))
         wrong.append(([count, 1], good, []))
-    # Sums and fourfolds that would wrap.
+    # Sums, fourfolds and sixfolds that would wrap.
     wrong.append(([2**64 - 1, 2], good, []))
     wrong.append(([2**63, 2**63], [], []))
     wrong.append(([2**62, 1], good, []))
     wrong.append(([2**62 + 1], good, []))
     wrong.append(([2**64 - 4, 2, 3], good, []))
-    for length in (0, 1, 3, 4, 5, 7, 9, 11, 12):
+    wrong.append(([2**63 + 1], good, []))
+    wrong.append(([2**63], [], []))
+    wrong.append(([2**64 // 6 + 1], good[:2], []))
+    # Whole blocks of four numbers, as they once were.
+    for length in (4, 8, 16):
+        wrong.append(([length // 4], (good * 3)[:length], []))
+    for length in (0, 1, 5, 6, 7, 11, 13, 17, 18):
         wrong.append(([2], (good * 3)[:length], []))
         wrong.append(([1, 1], (good * 3)[:length], []))
     wrong.append(([32] * 8, good * 257, []))
@@ -504,8 +513,9 @@ def count_cases(cases):
         wrong.append(([1, 1, 1], good * 3, [3, 1, 2] * count))
     for counts, words, rules in wrong:
         cases.lent(counts, words, rules)
-        if len(words) < 100:
-            cases.lent(counts, bad + words[4:] if len(words) >= 4 else words, rules or [3, 0, 0, 0], WORK_WANTED - 1)
+        if len(words) < 25 * BLOCK_SIZE:
+            blocks = bad + words[BLOCK_SIZE:] if len(words) >= BLOCK_SIZE else words
+            cases.lent(counts, blocks, rules or [3, 0, 0, 0], WORK_WANTED - 1)
     # Right ones at the limits, so that it is seen what is refused.
     cases.lent([1] * 8, good * 8, [0, 1, 2, 0] * 16)
     cases.lent([1] * 8, good * 8, [4, 1, 2, 0] * 16)
@@ -533,7 +543,7 @@ def shape_cases(cases):
     # The first bad text and its first bad block decide, whatever is wrong with those behind.
     for shape in TWO_BAD:
         cases.book([good, shape], [rule])
-        cases.book([good + shape[:4], shape[4:], good], [wrong], 0)
+        cases.book([good + shape[:BLOCK_SIZE], shape[BLOCK_SIZE:], good], [wrong], 0)
     for unsound in ONE_EACH:
         cases.book([good, heavy * 2 + unsound], [rule])
         cases.book([heavy * 2, unsound], [rule])
@@ -729,9 +739,9 @@ def any_case_rule_cases(cases):
     cases.book(long, [(ANY_CASE, 2, 3), (7, 2, 3)])
 
 
-def any_case_book(dice):
+def any_case_book(dice, alphabets=CASE_ALPHABETS):
     """Texts over one alphabet, one of them in several spellings, and rules of every kind, most of which are kept."""
-    codes = dice.pick(CASE_ALPHABETS)
+    codes = dice.pick(alphabets)
     stem = random_text(dice, codes, dice.between(1, 3))
     stems = [recased(dice, stem) for _ in range(dice.between(2, 4))]
     rules = []
@@ -750,7 +760,7 @@ def any_case_random_cases(cases):
     dice = Dice(34)
     for number in range(56):
         if number % 7 < 2:
-            texts, rules = wide_book(dice, (b"Aa", b"Nn", b"@A", b"Zz"), (ANY_CASE,), (ANY_CASE,))
+            texts, rules = chain_book(dice, (b"Aa", b"Nn", b"@A", b"Zz"), (ANY_CASE,), (ANY_CASE,))
         else:
             texts, rules = any_case_book(dice)
         cases.book(texts, rules)
@@ -762,6 +772,57 @@ def any_case_random_cases(cases):
         texts = [words] + [carved(dice, codes, recased(dice, text), dice.pick((8, 32))) for _ in range(3)]
         cases.book(texts, [(ANY_CASE, 1, 2), (ANY_CASE, 3, 4), (ANY_CASE, 2, 3)])
         cases.book(texts, [(ANY_CASE, 1, 2), (ANY_CASE, 1, 3), (EXACT, 2, 3), (AT_MOST, 1, 4)])
+
+
+# Books with codes above 127: texts, rules, the texts at the end and the applications, as they are found by hand. µ has
+# its bit where 5, u and õ have theirs in other numbers of a base.
+DEGREES = ["{0..9,C,°}2..5", "{0..9}1..3", "°0..1 C1..1"]
+RISING = ["z1..1", "¿1..1", "À1..1", "ÿ1..1"]
+HIGH = (
+    (["{a,ä}1..2", "{ä,ö}1..1"], [(EXACT, 1, 2)], ["ä1..1", "ä1..1"], 2),
+    (["µ1..1", "{5,u,õ}1..1"], [(EXACT, 1, 2)], None, 1),
+    (["{5,u,µ,õ}1..1", "{4..6,µ}1..2", "{u,µ}0..3"], [(EQUAL, 1, 2), (ANY_CASE, 2, 3)], ["µ1..1"] * 3, 6),
+    (["Ä1..1", "ä1..1"], [(ANY_CASE, 1, 2)], None, 1),
+    (["{N,Ä}1..1", "{n,ä}1..1"], [(ANY_CASE, 1, 2)], ["N1..1", "n1..1"], 2),
+    (["a1..1 {\xa0}0..1 { }0..2", "a1..1"], [(EQUAL, 1, 2)], ["a1..1 empty 0..0 { }0..2", "a1..1"], 2),
+    (RISING, [(BEFORE, 1, 2), (BEFORE, 2, 3), (BEFORE, 3, 4)], RISING, 3),
+    (RISING, [(BEFORE, 1, 2), (BEFORE, 3, 2), (BEFORE, 3, 4)], None, 2),
+    (RISING, [(AT_MOST, 2, 4), (AT_MOST, 3, 1)], None, 2),
+    (["{¿,À}1..1", "{À,Á}1..1", "{¿..Á}1..1"], [(BEFORE, 2, 3), (AT_MOST, 3, 2)], None, 2),
+    (["{¿,À}1..1", "{À,Á}1..1", "{¿..Á}1..1"], [(BEFORE, 2, 3), (AT_MOST, 1, 2)], ["{¿,À}1..1", "À1..1", "Á1..1"], 4),
+    (DEGREES, [(JOIN, 1, 2, 3)], DEGREES, 1),
+    ([*DEGREES, "C1..1 { }2..2"], [(JOIN, 1, 2, 3), (EQUAL, 3, 4)],
+     ["{0..9,C}2..4", "{0..9}1..3", "empty 0..0 C1..1", "C1..1 { }2..2"], 6),
+    ([*DEGREES, "°1..1"], [(JOIN, 1, 2, 3), (AT_MOST, 4, 3)],
+     ["{0..9,C,°}3..5", "{0..9}1..3", "°1..1 C1..1", "°1..1"], 6),
+)
+
+
+def high_cases(cases):
+    for texts, rules, final, applications in HIGH:
+        hold_run_to_answer("codes above 127, found by hand", texts, rules, final, applications)
+        every_order(cases, [written(text) for text in texts], rules)
+    # Each code beside those with its bit in another number of a base, and beside its neighbours.
+    for at, code in enumerate(WORD_ENDS):
+        texts = [block(base, 0, 2) for base in ((code, code ^ 64), (code, code ^ 128), (code - 1, code), ALL_CODES)]
+        kind = EQUALITIES[at % len(EQUALITIES)]
+        cases.book(texts, [(kind, 1, 2), (BEFORE, 3, 1), (AT_MOST, 4, 3)])
+        cases.book([*texts[:3], block([code], 1, 1)], [(JOIN, 1, 3, 4), (kind, 1, 2)])
+    good = block([128], 0, 3)
+    for at, bad in enumerate(high_unsound_blocks()):
+        cases.book([good, good + bad], [(EQUAL, 1, 2)], WORK_WANTED if at % 2 else 0)
+    dice = Dice(35)
+    for number in range(54):
+        if number % 3 == 0:
+            texts, rules = chain_book(dice, HIGH_ALPHABETS[:7], KINDS, EQUALITIES)
+        else:
+            texts, rules = any_case_book(dice, HIGH_ALPHABETS + HIGH_CASE_ALPHABETS)
+        cases.book(texts, rules)
+        if number % 6 == 1 and len(rules) > 1:
+            cases.book(texts, shuffled(dice, rules))
+    # The most blocks, with codes of all numbers of a base.
+    full = [block([63 + 64 * (number % 4)], 0, 7) * MOST_BLOCKS for number in range(MOST_TEXTS)]
+    cases.book(full, [(BEFORE, 1, 2), (AT_MOST, 4, 3)])
 
 
 def all_cases():
@@ -781,6 +842,7 @@ def all_cases():
     any_case_cases(cases)
     any_case_rule_cases(cases)
     any_case_random_cases(cases)
+    high_cases(cases)
     return cases.lines
 
 

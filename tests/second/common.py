@@ -10,10 +10,10 @@ from functools import lru_cache
 from base import OUTPUT_WANTED, text_shown
 from bounds import bound, fits
 from making import (
-    Dice, block, carved, counted, edge_pairs, hexes, hold_numbers_to_room, large_pair, lists_read, numbers_read,
-    refused_pairs, small_blocks, small_pair, written,
+    OLD_SHAPES, Dice, block, carved, counted, drawn_high_pairs, edge_pairs, hexes, high_pairs, hold_numbers_to_room,
+    large_pair, lists_read, numbers_read, refused_pairs, small_blocks, small_pair, written,
 )
-from narrow import TABLE, work_shown
+from narrow import FEW_NUMBERS, TABLE, work_shown
 from pairs import EXACT, narrowed
 from shapes import (
     FEW_FILLINGS, MOST_BLOCKS, MOST_CHARACTERS, WORK_WANTED, Refused, agree, all_texts, fillings, pair_of, shape_of,
@@ -246,6 +246,18 @@ ANSWERS = (
     ("a1..1 { }4..4", "a1..1 { }5..9", None),
     ("{a, }2..2", "a1..1 { }0..1 a0..1", "a "),
     ("{ }0..9 a1..1", "{ }0..9 a1..1 { }0..1", " " * 9 + "a"),
+    # Latin letters and signs; µ has its bit where 5, u and õ have theirs in other numbers of a base.
+    ("{a,ä}1..2", "{ä,ö}1..1", "ä"),
+    ("{a..ÿ}2..2", "{~,ÿ}0..1 {é..ÿ}1..1", "~é"),
+    ("°0..1 C1..1", "{C,°}1..2", "C"),
+    ("°0..1 C1..1", "{C,°}2..2", "°C"),
+    ("µ1..1", "{5,u,õ}1..1", None),
+    ("{5,u,µ,õ}2..2", "{u,µ}1..1 {µ,õ}1..1", "uµ"),
+    ("{\x7f,\x80}1..1", "{\x80,\x81}1..1", "\x80"),
+    ("{¿,À}1..1", "{À,Á}0..2", "À"),
+    ("Ä1..1", "ä1..1", None),
+    ("{\xa0}0..3", "{\xa0}2..9 { }0..1", "\xa0\xa0"),
+    ("{þ,ÿ}250..250", "ÿ0..250", "ÿ" * 250),
 )
 
 
@@ -253,14 +265,14 @@ def answer_cases(cases):
     for first, second, answer in ANSWERS:
         first, second = written(first), written(second)
         found = earliest(*pair_of(first, second))
-        agree("an answer found by hand", (first, second), found, answer if answer is None else answer.encode())
+        agree("an answer found by hand", (first, second), found, answer if answer is None else answer.encode("latin-1"))
         cases.both(first, second)
     for _, first, second, _ in TABLE:
         cases.both(written(first), written(second))
 
 
 def code_cases(cases):
-    """Large bases, and the least and greatest codes of both numbers of a base."""
+    """Large bases, and the least and greatest codes of the first two numbers of a base."""
     whole = range(128)
     bases = [whole, range(1, 128), range(127), range(64), range(64, 128), (0, 127)]
     large = len(bases)
@@ -296,7 +308,7 @@ def lent_cases(cases):
 def refusal_cases(cases):
     for at, (first, second) in enumerate(refused_pairs()):
         cases.add(first, second)
-        if len(first) + len(second) < 40:
+        if len(first) + len(second) <= FEW_NUMBERS:
             # Also with a work buffer and an output that are too short, which come last.
             work, length = ((0, 0), (WORK_WANTED - 1, OUTPUT_WANTED), (WORK_WANTED, OUTPUT_WANTED - 1))[at % 3]
             cases.add(first, second, work, length)
@@ -426,6 +438,16 @@ def blocks_by_chance(dice, codes):
     return words
 
 
+def high_cases(cases):
+    """Codes above 127, and blocks of four numbers."""
+    for first, second in high_pairs():
+        cases.add(first, second)
+    for first, second in drawn_high_pairs(Dice(45), 70, SMALL_FILLINGS):
+        cases.add(first, second)
+    for shape in OLD_SHAPES:
+        cases.both(shape, block([128], 1, 1))
+
+
 def all_cases():
     cases = Cases()
     answer_cases(cases)
@@ -440,6 +462,7 @@ def all_cases():
     for _ in range(700):
         cases.add(*small_pair(dice, SMALL_FILLINGS))
     large_cases(cases)
+    high_cases(cases)
     return cases.lines
 
 

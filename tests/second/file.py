@@ -9,25 +9,32 @@ from itertools import product
 from pathlib import Path
 
 from book import (
-    CASED, MOST_RULES, MOST_TEXTS, PADDED, RULE_SIZE, SERIAL, any_case_book, book_of, four, hold_to_laws, join_book,
-    random_book, run, shuffled, wide_book,
+    CASED, HIGH, MOST_RULES, MOST_TEXTS, PADDED, RULE_SIZE, SERIAL, any_case_book, book_of, chain_book, four,
+    hold_to_laws, join_book, random_book, run, shuffled,
 )
 from joins import JOIN
 from making import (
-    ONE_EACH, TWO_BAD, Dice, block, hold_lines_to_room, many_blocks, unsound_blocks, words_of, written,
+    HIGH_ALPHABETS, HIGH_CASE_ALPHABETS, ONE_EACH, TWO_BAD, WORD_ENDS, Dice, block, high_unsound_blocks,
+    hold_lines_to_room, many_blocks, unsound_blocks, words_of, written,
 )
 from narrow import TOGETHER, by_turns
 from pairs import ANY_CASE, AT_MOST, BEFORE, CASED_EQUALITIES, EQUAL, EXACT
-from shapes import MOST_BLOCKS, Refused, agree, total
+from shapes import ALL_CODES, BASE_SIZE, BLOCK_SIZE, MOST_BLOCKS, WORD_CODES, Refused, agree, total
 
-MOST_BYTES = 16_384
-REPORT_WANTED = 16_384
+MOST_BYTES = 32_768
+REPORT_WANTED = 32_768
 MOST_NUMBER = 65_535
 MOST_ALL_BLOCKS = 256
 
+# What the first two were before document 02, order 10.
+OLD_SIZE = 16_384
+
+# The hex digits of a base under each heading of the blocks: codes up to 127, and all codes (document 02, order 10).
+DIGITS = {b"BLOCKS": 32, b"WIDE": 64}
+
 # What the program has room for.
-LONGEST_FILE = 16_400
-LONGEST_REPORT = 16_500
+LONGEST_FILE = 32_800
+LONGEST_REPORT = 32_900
 
 # Document 01's book, its rule with the fourth number of document 02, and what it prints.
 EXAMPLE = b"""\
@@ -57,25 +64,27 @@ EXAMPLES = Path(__file__).resolve().parents[2] / "examples"
 
 
 def numbers_line(numbers):
-    return " ".join(map(str, numbers)) + "\n"
+    return b" ".join(b"%d" % number for number in numbers) + b"\n"
 
 
-def block_line(words):
-    low, high, lower, upper = words
-    return f"{high:016x}{low:016x} {lower} {upper}\n"
+def block_line(words, heading):
+    *base, lower, upper = words
+    value = sum(word << WORD_CODES * place for place, word in enumerate(base))
+    return f"{value:0{DIGITS[heading]}x} {lower} {upper}\n".encode()
 
 
-def texts_and_blocks(counts, words):
-    blocks = [words[at : at + 4] for at in range(0, len(words), 4)]
-    lines = [f"TEXTS {len(counts)}\n", *(numbers_line([count]) for count in counts)]
-    return "".join([*lines, f"BLOCKS {len(blocks)}\n", *map(block_line, blocks)])
+def texts_and_blocks(counts, words, heading):
+    lines = [b"TEXTS %d\n" % len(counts), *(numbers_line([count]) for count in counts)]
+    lines.append(b"%s %d\n" % (heading, len(words) // BLOCK_SIZE))
+    lines += (block_line(words[at : at + BLOCK_SIZE], heading) for at in range(0, len(words), BLOCK_SIZE))
+    return b"".join(lines)
 
 
-def book_file(counts, words, rules):
+def book_file(counts, words, rules, heading=b"BLOCKS"):
     """The file of a book, its rules as one row of numbers."""
     fours = [rules[at : at + RULE_SIZE] for at in range(0, len(rules), RULE_SIZE)]
-    lines = [f"RULES {len(fours)}\n", *map(numbers_line, fours)]
-    return (texts_and_blocks(counts, words) + "".join(lines)).encode()
+    lines = [b"RULES %d\n" % len(fours), *map(numbers_line, fours)]
+    return texts_and_blocks(counts, words, heading) + b"".join(lines)
 
 
 # Reading, byte by byte. A line departs where the first byte stands that no file in the grammar has
@@ -119,15 +128,15 @@ class Scanner:
             self.depart()
         return value
 
-    def base(self):
-        """Two numbers of a base, the one of the codes 0 to 63 first."""
+    def base(self, digits):
+        """The numbers of a base, the one of the codes 0 to 63 first."""
         value = 0
-        for _ in range(32):
+        for _ in range(digits):
             if self.next() is None or self.next() not in b"0123456789abcdef":
                 self.depart()
             value = 16 * value + b"0123456789abcdef".index(self.next())
             self.at += 1
-        return [value % 2**64, value // 2**64]
+        return [value >> WORD_CODES * place & 2**WORD_CODES - 1 for place in range(BASE_SIZE)]
 
     def section(self, word, most, content):
         """The numbers of the lines behind a count."""
@@ -143,8 +152,8 @@ class Scanner:
     def text(self):
         return [self.number(MOST_NUMBER)]
 
-    def block(self):
-        words = self.base()
+    def block(self, digits):
+        words = self.base(digits)
         for _ in range(2):
             self.word(b" ")
             words.append(self.number(MOST_NUMBER))
@@ -159,26 +168,29 @@ class Scanner:
 
     def book(self):
         counts = self.section(b"TEXTS", MOST_TEXTS, self.text)
-        words = self.section(b"BLOCKS", MOST_ALL_BLOCKS, self.block)
+        heading = b"WIDE" if self.next() == ord("W") else b"BLOCKS"
+        words = self.section(heading, MOST_ALL_BLOCKS, lambda: self.block(DIGITS[heading]))
         rules = self.section(b"RULES", MOST_RULES, self.rule)
         if self.next() is not None:
             self.depart()
-        return counts, words, rules
+        return counts, words, rules, heading
 
 
-# Reading, line by line: for each section its first line, its other lines, and the least such line.
+# Reading, line by line: the first line of each section, after a heading that it may have; then under each heading its
+# other lines, and the least such line.
 
 NUMBER = rb"(?:0|[1-9][0-9]{0,3}|[1-5][0-9]{4}|6[0-4][0-9]{3}|65[0-4][0-9]{2}|655[0-2][0-9]|6553[0-5])"
-SECTIONS = (
-    (b"TEXTS", rb"TEXTS ([0-8])", NUMBER, b"0"),
-    (
-        b"BLOCKS",
-        rb"BLOCKS (0|[1-9][0-9]?|1[0-9]{2}|2[0-4][0-9]|25[0-6])",
-        rb"[0-9a-f]{32} %s %s" % (NUMBER, NUMBER),
-        b"0" * 32 + b" 0 0",
-    ),
-    (b"RULES", rb"RULES ([0-9]|1[0-6])", rb"%s %s %s %s" % (NUMBER, NUMBER, NUMBER, NUMBER), b"0 0 0 0"),
-)
+HEADS = {
+    b"TEXTS": rb"(TEXTS) ([0-8])",
+    b"BLOCKS": rb"(BLOCKS|WIDE) (0|[1-9][0-9]?|1[0-9]{2}|2[0-4][0-9]|25[0-6])",
+    b"RULES": rb"(RULES) ([0-9]|1[0-6])",
+}
+OTHERS = {
+    b"TEXTS": (NUMBER, b"0"),
+    b"BLOCKS": (rb"[0-9a-f]{32} %s %s" % (NUMBER, NUMBER), b"0" * 32 + b" 0 0"),
+    b"WIDE": (rb"[0-9a-f]{64} %s %s" % (NUMBER, NUMBER), b"0" * 64 + b" 0 0"),
+    b"RULES": (rb"%s %s %s %s" % (NUMBER, NUMBER, NUMBER, NUMBER), b"0 0 0 0"),
+}
 
 
 def departs_by_patterns(file):
@@ -186,12 +198,13 @@ def departs_by_patterns(file):
     # What stands behind the last newline is no whole line; if it is empty it is none at all.
     *lines, unfinished = file.split(b"\n")
     at = 0
-    for _, head, other, _ in SECTIONS:
+    for head in HEADS.values():
         found = re.fullmatch(head, lines[at]) if at < len(lines) else None
         at += 1
         if found is None:
             return at
-        for _ in range(int(found[1])):
+        other, _ = OTHERS[found[1]]
+        for _ in range(int(found[2])):
             at += 1
             if at > len(lines) or re.fullmatch(other, lines[at - 1]) is None:
                 return at
@@ -202,16 +215,18 @@ def completed(lines):
     """A file that begins with these lines, all of them in the grammar."""
     lines = list(lines)
     at = 0
-    for word, head, _, least in SECTIONS:
+    for heading, head in HEADS.items():
         if at == len(lines):
-            lines.append(word + b" 0")
-        at += 1 + int(re.fullmatch(head, lines[at])[1])
+            lines.append(heading + b" 0")
+        found = re.fullmatch(head, lines[at])
+        _, least = OTHERS[found[1]]
+        at += 1 + int(found[2])
         lines += [least] * (at - len(lines))
     return b"".join(line + b"\n" for line in lines)
 
 
 def book_read(file):
-    """Block counts, blocks and rules as three rows of numbers."""
+    """Block counts, blocks and rules as three rows of numbers, and the heading of the blocks."""
     if len(file) > MOST_BYTES:
         raise Refused(9, 0, 0)
     try:
@@ -233,8 +248,8 @@ def book_read(file):
 
 
 def run_file(file, room):
-    """The report of a file's book, for an output of so many bytes. Refusals in their order: 9, 8, the book's, then 5."""
-    counts, words, rules = book_read(file)
+    """The report of a file's book, for an output of so many bytes. Refusals in order: 9, 8, the book's, then 5."""
+    counts, words, rules, heading = book_read(file)
     shapes, fours = book_of(counts, words, rules)
     if room < REPORT_WANTED:
         raise Refused(5, 0, 0)
@@ -244,7 +259,7 @@ def run_file(file, room):
     if final is None:
         return b"NONE %d\n" % applications
     words = [word for shape in final for word in words_of(shape)]
-    return b"STABLE %d\n" % applications + texts_and_blocks(counts, words).encode()
+    return b"STABLE %d\n" % applications + texts_and_blocks(counts, words, heading)
 
 
 def report(file):
@@ -297,14 +312,15 @@ class Cases:
     def lent(self, counts, words, rules):
         self.file(book_file(counts, words, rules))
 
-    def book(self, texts, rules):
+    def book(self, texts, rules, heading=b"BLOCKS"):
         """A case of texts, each a shape's numbers, and rules, each as `four` takes it."""
-        self.file(file_of(texts, rules))
+        self.file(file_of(texts, rules, heading))
 
 
-def file_of(texts, rules):
+def file_of(texts, rules, heading=b"BLOCKS"):
     words = [word for text in texts for word in text]
-    return book_file([len(text) // 4 for text in texts], words, [number for rule in rules for number in four(rule)])
+    counts = [len(text) // BLOCK_SIZE for text in texts]
+    return book_file(counts, words, [number for rule in rules for number in four(rule)], heading)
 
 
 GOOD = block(b"ab", 0, 3)
@@ -360,7 +376,7 @@ def round_cases(cases):
 def random_cases(cases):
     dice = Dice(41)
     for number in range(105):
-        texts, rules = wide_book(dice) if number % 5 < 2 else random_book(dice)
+        texts, rules = chain_book(dice) if number % 5 < 2 else random_book(dice)
         cases.book(texts, rules)
         if number % 4 == 0 and len(rules) > 1:
             cases.book(texts, shuffled(dice, rules))
@@ -412,12 +428,12 @@ def count_cases(cases):
 def shape_cases(cases):
     """Bad blocks (2, 10, 11) and totals over 250 (3), text by text, before the rules."""
     for number, unsound in enumerate(unsound_blocks()):
-        if max(unsound[2:]) <= MOST_NUMBER:
+        if max(unsound[-2:]) <= MOST_NUMBER:
             cases.book([GOOD, GOOD + unsound], [(EQUAL, 1, 2)] if number % 2 else [(3, 0, 0)])
     # The first bad text and its first bad block decide, whatever is wrong with those behind.
     for shape in TWO_BAD:
         cases.book([GOOD, shape], [(EQUAL, 1, 2)])
-        cases.book([GOOD + shape[:4], shape[4:]], [(3, 0, 0)])
+        cases.book([GOOD + shape[:BLOCK_SIZE], shape[BLOCK_SIZE:]], [(3, 0, 0)])
     for unsound in ONE_EACH:
         cases.book([GOOD, HEAVY * 2 + unsound], [(EQUAL, 1, 2)])
         cases.book([HEAVY * 2, unsound], [(EQUAL, 1, 2)])
@@ -634,7 +650,7 @@ def word_cases(cases):
         cases.file(file)
     for file in (b"RULES 16\n", b"RULES 17\n", b"RULES 0\n", b"RULES 0", b"RULES 1\n", b"RULES 1\n0 0 0 0\n"):
         cases.file(b"TEXTS 0\nBLOCKS 0\n" + file)
-    cases.file(b"TEXTS 8\n" + b"1\n" * 8 + b"BLOCKS 8\n" + (block_line(GOOD) * 8).encode() + b"RULES 17\n")
+    cases.file(b"TEXTS 8\n" + b"1\n" * 8 + b"BLOCKS 8\n" + block_line(GOOD, b"BLOCKS") * 8 + b"RULES 17\n")
 
 
 def short_cases(cases):
@@ -675,14 +691,15 @@ def changed_cases(cases):
 
 
 def size_cases(cases):
-    """Files of the greatest size and of one byte more."""
-    filler = b"0 1 2 0\n" * 3000
-    cases.file((EXAMPLE + filler)[:MOST_BYTES])
-    cases.file((EXAMPLE + filler)[: MOST_BYTES + 1])
+    """Files around the greatest size, and around what it once was."""
+    filled = EXAMPLE + b"0 1 2 0\n" * 5000
+    for size in (OLD_SIZE, OLD_SIZE + 1, MOST_BYTES - 1):
+        cases.file(filled[:size])
     # The file's refusals come before that of an output too short.
-    cases.file((EXAMPLE + filler)[: MOST_BYTES + 1], REPORT_WANTED - 1)
-    cases.file(b"\n" * MOST_BYTES, REPORT_WANTED - 1)
-    cases.file(b"Z" * (MOST_BYTES + 1), 0)
+    for size in (OLD_SIZE + 1, MOST_BYTES, MOST_BYTES + 1):
+        cases.file(filled[:size], REPORT_WANTED - 1)
+    cases.file(b"\n" * OLD_SIZE, REPORT_WANTED - 1)
+    cases.file(b"Z" * (OLD_SIZE + 1), 0)
 
 
 def report_cases(cases):
@@ -693,9 +710,99 @@ def report_cases(cases):
     for file in files:
         for length in (0, REPORT_WANTED - 1, REPORT_WANTED, REPORT_WANTED + 1, LONGEST_REPORT):
             cases.file(file, length)
-    for length in (1, 13, 14, 15, 100, 109, 250, 4_096, 16_000):
+    for length in (1, 13, 14, 15, 100, 109, 250, 4_096, 16_000, OLD_SIZE - 1, OLD_SIZE, OLD_SIZE + 1):
         for file in (EXAMPLE, b"", file_of([BAD], [])):
             cases.file(file, length)
+
+
+def widened(text):
+    """A file or a report headed BLOCKS as it is if headed WIDE: 32 zeros more before each base."""
+    return re.sub(rb"(?m)^(?=[0-9a-f]{32} )", b"0" * 32, text).replace(b"BLOCKS ", b"WIDE ")
+
+
+WIDE = widened(EXAMPLE)
+
+
+def twin_cases(cases):
+    """Files headed BLOCKS, and the same headed WIDE: each report has the heading of its book, and all else is alike."""
+    files = [*example_files(), EXAMPLE, PLAIN, JOINED, *(file_of([bad], []) for bad in ONE_EACH)]
+    files += [file_of([GOOD], [(EQUAL, 1, 1)]), file_of([HEAVY * 2], []), book_file([2], GOOD, [])]
+    for texts, rules, _, _ in (PADDED + CASED)[::3]:
+        files.append(file_of([written(text) for text in texts], rules))
+    for file in files:
+        agree("the file headed WIDE", file, report(widened(file)), widened(report(file)))
+        cases.file(widened(file))
+    for length in (0, OLD_SIZE, REPORT_WANTED - 1, REPORT_WANTED + 1, LONGEST_REPORT):
+        cases.file(WIDE, length)
+
+
+def digit_cases(cases):
+    """Bases with too few digits for their heading and with too many, or with other bytes among them (8)."""
+    for file in (EXAMPLE, WIDE):
+        lines = file.splitlines()
+        for at in (4, 5):
+            digits, counts = lines[at].split(b" ", 1)
+            for length in (0, 1, 16, 31, 32, 33, 48, 63, 64, 65, 96, 128):
+                changed = (b"0" * length + digits)[len(digits) :]
+                cases.file(b"\n".join([*lines[:at], changed + b" " + counts, *lines[at + 1 :], b""]))
+    start = WIDE.index(b"WIDE 2\n") + len(b"WIDE 2\n")
+    for place in (0, 31, 32, 63):
+        for byte in b"AFg/:`@ \n":
+            cases.file(WIDE[: start + place] + bytes([byte]) + WIDE[start + place + 1 :])
+
+
+def heading_cases(cases):
+    """Headings that are misspelt, in another's place, twice, or with a count that is none."""
+    for line in (
+        b"wide 2", b"Wide 2", b"WID 2", b"WIDES 2", b"IDE 2", b"XIDE 2", b"WXDE 2", b"WIXE 2", b"WIDX 2", b"WIDE2",
+        b"WIDE", b"WIDE ", b"WIDE  2", b" WIDE 2", b"WIDE 2 ", b"WIDE\t2", b"WIDE\n2", b"WIDE\n", b"WIDE: 2", b"W 2",
+        b"WIDE BLOCKS 2", b"BLOCKS WIDE 2", b"WIDEBLOCKS 2", b"WLOCKS 2", b"BIDE 2", b"TEXTS 2", b"RULES 2",
+        b"WIDE 0", b"WIDE 1", b"WIDE 3", b"WIDE 256", b"WIDE 257", b"WIDE 258", b"WIDE 999", b"WIDE 65536", b"WIDE 02",
+        b"WIDE 00", b"WIDE +2", b"WIDE -2", b"WIDE 2.", b"WIDE 2\r", b"WIDE 2 2", b"WIDE two", b"WIDE 2\nWIDE 2",
+        b"WIDE 0\nBLOCKS 2", b"BLOCKS 0\nWIDE 2", b"BLOCKS 2",
+    ):
+        cases.file(WIDE.replace(b"WIDE 2", line))
+    cases.file(EXAMPLE.replace(b"BLOCKS", b"WIDE"))
+    for word in (b"TEXTS", b"RULES"):
+        cases.file(WIDE.replace(word, b"WIDE"))
+    for count in (0, 256, 257):
+        cases.file(b"TEXTS 0\nWIDE %d\n" % count)
+        cases.file(b"TEXTS 0\nWIDE %d\nRULES 0\n" % count)
+    # Lines left out and doubled, and the file cut short.
+    lines = WIDE.splitlines(keepends=True)
+    for at in range(3, 6):
+        cases.file(b"".join(lines[:at] + lines[at + 1 :]))
+        cases.file(b"".join(lines[: at + 1] + lines[at:]))
+    start = WIDE.index(b"WIDE")
+    for at in (*range(start, start + 10), *range(start + 10, len(WIDE), 7)):
+        cases.file(WIDE[:at])
+
+
+def high_cases(cases):
+    """Books with codes above 127, stable, none and refused."""
+    for texts, rules, _, _ in HIGH:
+        cases.book([written(text) for text in texts], rules, b"WIDE")
+    for low, high in zip(WORD_ENDS, WORD_ENDS[1:]):
+        texts = [block([low, high], 1, 1), block([high], 1, 2)]
+        for rule in ((BEFORE, 1, 2), (BEFORE, 2, 1), (EXACT, 1, 2)):
+            cases.book(texts, [rule], b"WIDE")
+    for bad in high_unsound_blocks():
+        cases.book([block([128], 0, 3), bad], [], b"WIDE")
+    # Under the other heading their digits are too many.
+    cases.book([block([128], 0, 3)], [])
+    # Every code at its place, in the most blocks; the report has more bytes than it once could have.
+    every = [[word for code in ALL_CODES[at : at + 32] for word in block([code], 1, 1)] for at in ALL_CODES[::32]]
+    cases.book(every, [(BEFORE, text, text + 1) for text in range(1, MOST_TEXTS)], b"WIDE")
+    dice = Dice(44)
+    for _ in range(20):
+        cases.book(*any_case_book(dice, HIGH_ALPHABETS + HIGH_CASE_ALPHABETS), b"WIDE")
+
+
+def wide_cases(cases):
+    twin_cases(cases)
+    digit_cases(cases)
+    heading_cases(cases)
+    high_cases(cases)
 
 
 def all_cases():
@@ -717,6 +824,7 @@ def all_cases():
     large_cases(cases)
     size_cases(cases)
     any_case_cases(cases)
+    wide_cases(cases)
     return cases.lines
 
 

@@ -12,10 +12,13 @@ import base
 from base import EDGE_BYTES, EDGE_CODES, nearly, text_read, text_shown
 from bounds import fits
 from making import (
-    LARGE_ALPHABETS, ONE_EACH, Dice, block, carved, edge_pairs, hexes, large_shape, many_blocks, numbers_read,
-    random_filling, random_text, refused_pairs, shared_out, small_blocks, small_shape, words_of, written,
+    HIGH_ALPHABETS, LARGE_ALPHABETS, LARGE_HIGH_ALPHABETS, OLD_SHAPES, ONE_EACH, WORD_ENDS, Dice, block, carved,
+    edge_pairs, hexes, high_pairs, high_unsound_blocks, large_shape, many_blocks, numbers_read, random_filling,
+    random_text, refused_pairs, shared_out, small_blocks, small_shape, words_of, written,
 )
-from shapes import FEW_FILLINGS, MOST_BLOCKS, MOST_CHARACTERS, Block, Refused, agree, all_texts, fillings, shape_of
+from shapes import (
+    ALL_CODES, FEW_FILLINGS, MOST_BLOCKS, MOST_CHARACTERS, Block, Refused, agree, all_texts, fillings, shape_of,
+)
 
 MOST_MARK = 64
 
@@ -303,6 +306,21 @@ ANSWERS = (
     ("{a,b}0..7 " * 32, "aab" * 21 + "a", "some 1 161"),
     ("a2..2 b2..2 " * 16, "aabb" * 16, "all 1 1"),
     ("a2..2 b2..2 " * 16, "aabb" * 15 + "aab", "all 1 1"),
+    # Latin letters and signs; µ has its bit where 5, u and õ have theirs in other numbers of a base.
+    ("{0..9}1..3 °1..1 C1..1", "°C", "all 2 4"),
+    ("{0..9}1..3 °0..1 C1..1", "°C", "some 2 4"),
+    ("{0..9}1..3 °1..1 C1..1", "0C", "nowhere"),
+    ("{0..9}0..9 µ1..1 m1..1", "µm", "all 1 10"),
+    ("µ1..1 m1..1", "5m", "nowhere"),
+    ("µ1..1 m1..1", "um", "nowhere"),
+    ("µ1..1 m1..1", "õm", "nowhere"),
+    ("{5,u,µ,õ}2..2", "µ", "some 1 2"),
+    ("Ä1..1 ä1..1", "ä", "all 2 2"),
+    ("{\x7f,\x80}3..3", "\x80", "some 1 3"),
+    ("{¿,À}2..2", "¿À", "some 1 1"),
+    ("þ0..9 ÿ1..1", "ÿ", "all 1 10"),
+    ("ÿ0..250", "ÿ" * 64, "some 1 1"),
+    ("{@..ÿ}250..250", "ÿ", "some 1 250"),
     # The empty mark.
     (TORQUE, "", "all 1 1"),
     ("empty 0..0", "", "all 1 1"),
@@ -324,7 +342,7 @@ ANSWERS = (
 
 def hand_cases():
     for shape, mark, line in ANSWERS:
-        mark, words = mark.encode(), written(shape)
+        mark, words = mark.encode("latin-1"), written(shape)
         agree("an answer found by hand", (shape, mark), expected_line(case_shown(mark, words)), line)
         yield mark, words
 
@@ -352,7 +370,7 @@ def length_cases():
 
 
 def code_cases():
-    """The least and greatest codes of both numbers of a base, and bytes that no base holds."""
+    """The least and greatest codes of the first two numbers of a base, and bytes that they do not hold."""
     whole = range(128)
     for code in (0, 63, 64, 127):
         for byte in EDGE_BYTES:
@@ -469,9 +487,9 @@ KINDS = (
 MARK_ALPHABETS = (b"A", b"AB", b"AB", b"ABC", b"ABCD", (0, 1), (63, 64), (0, 64), (0, 63, 64, 127))
 
 
-def small_case(dice):
+def small_case(dice, alphabets=MARK_ALPHABETS):
     while True:
-        codes = dice.pick(MARK_ALPHABETS)
+        codes = dice.pick(alphabets)
         shape = shape_of(small_blocks(dice, codes) + (small_blocks(dice, codes) if dice.below(2) else []))
         if fillings(shape) <= SMALL_FILLINGS:
             length = dice.pick((0, 1, 1, 2, 2, 2, 3, 3, 4, 5))
@@ -585,11 +603,36 @@ def fixed_cases():
         kind = dice.below(4)
         if kind == 0:
             wider = dice.pick(blocks)
-            wider[2:] = [wider[2] - dice.below(2), wider[3] + 1]
+            lower, upper = wider[-2:]
+            wider[-2:] = [lower - dice.below(2), upper + 1]
         room = (MOST_CHARACTERS - len(mark) - 1) // 2
         sides = [dice.between(1, (MOST_BLOCKS - len(blocks)) // 2) for _ in range(2)]
         front, back = (shared_out(dice, codes, count, dice.between(0, room)) for count in sides)
         yield nearly(dice, mark, codes)[:MOST_MARK] if kind == 1 else mark, front + joined(blocks) + back
+
+
+def high_cases():
+    """Codes above 127, in the shape, in the mark and in both; and blocks of four numbers."""
+    for code in WORD_ENDS:
+        near = range(code - 1, min(code + 2, 256))
+        for byte in (0, *WORD_ENDS):
+            yield bytes([byte]), block(near, 1, 2)
+            yield bytes([code, byte]), block((code, byte), 2, 3)
+        yield bytes([code]), block(ALL_CODES, 0, 3)
+        yield bytes([code]), block([other for other in ALL_CODES if other != code], 0, 3)
+    for first in (63, 128, 192):
+        yield bytes(range(first, first + MOST_MARK)), block(ALL_CODES, 0, 70)
+    dice = Dice(78)
+    for first, second in list(high_pairs())[::4]:
+        yield random_filling(dice, shape_of(second)), first + second
+    for _ in range(60):
+        mark, shape = small_case(dice, HIGH_ALPHABETS)
+        yield mark, words_of(shape)
+    for length in LENGTHS:
+        codes, words = large_shape(dice, LARGE_HIGH_ALPHABETS)
+        yield random_mark(dice, codes, random_filling(dice, shape_of(words)), length), words
+    for bad in (*high_unsound_blocks(), *OLD_SHAPES):
+        yield b"\x80", bad
 
 
 def case_shown(mark, words):
@@ -599,7 +642,7 @@ def case_shown(mark, words):
 def all_cases():
     parts = (
         hand_cases, edge_cases, length_cases, code_cases, long_mark_cases, refusal_cases, kind_cases, small_cases,
-        large_cases, near_cases, start_cases, fixed_cases,
+        large_cases, near_cases, start_cases, fixed_cases, high_cases,
     )
     # None twice.
     return list(dict.fromkeys(case_shown(mark, words) for part in parts for mark, words in part()))

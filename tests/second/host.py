@@ -8,8 +8,8 @@ from functools import lru_cache
 
 import file
 from file import (
-    BAD, EXAMPLE, GOOD, HEAVY, MOST_BYTES, PLAIN, REPORT_WANTED, book_file, bytes_read, example_files, file_of,
-    report, run_file,
+    BAD, EXAMPLE, GOOD, HEAVY, MOST_BYTES, OLD_SIZE, PLAIN, REPORT_WANTED, WIDE, book_file, bytes_read, example_files,
+    file_of, report, run_file, widened,
 )
 from joins import JOIN
 from making import ONE_EACH, block, written
@@ -78,7 +78,7 @@ class Cases:
                 self.lent(book, report_length, work_length)
 
 
-REPORTS = (0, 1, REPORT_WANTED - 1, REPORT_WANTED, REPORT_WANTED + 1, 20_000)
+REPORTS = (0, OLD_SIZE, REPORT_WANTED - 1, REPORT_WANTED, REPORT_WANTED + 1, 40_000)
 WORKS = (0, WORK_WANTED - 1, WORK_WANTED, WORK_WANTED + 1, 70_000)
 
 # Too short and enough.
@@ -87,9 +87,11 @@ FEW_WORKS = (0, WORK_WANTED - 1, WORK_WANTED)
 
 
 def example_cases(cases):
-    """The books of examples/ and document 01's, with every length of both buffers."""
-    for book in (EXAMPLE, *example_files()):
+    """The books of examples/ and document 01's, under both headings, with every length of both buffers."""
+    for book in (EXAMPLE, WIDE, *example_files()):
         cases.each(book, REPORTS, WORKS)
+    for book in example_files():
+        cases.lent(widened(book))
     # A book whose rule says none, and one without rules.
     cases.each(file_of([written("a1..1"), written("b1..1")], [(EQUAL, 1, 2)]), REPORTS, WORKS)
     cases.each(file_of([GOOD], []), REPORTS, WORKS)
@@ -152,18 +154,25 @@ def size_cases(cases):
     for book in (b"", b"\n", b"T", b"\0"):
         cases.each(book, FEW_REPORTS, FEW_WORKS)
     # No book in the grammar is as large as that: this one has more rules than it counts.
-    filled = PLAIN + b"0 1 2 0\n" * 3000
-    for number, size in ((8, MOST_BYTES), (9, MOST_BYTES + 1)):
+    filled = PLAIN + b"0 1 2 0\n" * 5000
+    for number, size in ((8, OLD_SIZE), (8, OLD_SIZE + 1), (8, MOST_BYTES - 1), (8, MOST_BYTES), (9, MOST_BYTES + 1)):
         agree("the number tried first", size, ran(filled[:size])[1], number)
-        cases.each(filled[:size], (0, REPORT_WANTED), (WORK_WANTED - 1, WORK_WANTED))
-    cases.lent(b"Z" * 20_000)
+        cases.lent(filled[:size])
+    for size in (MOST_BYTES, MOST_BYTES + 1):
+        cases.lent(filled[:size], 0, WORK_WANTED - 1)
+    cases.lent(b"Z" * 40_000)
 
 
 def large_cases(cases):
     """The longest report, the most blocks and rules, the most blanks, and a run of many applications."""
     # 8 texts of 32 blocks, and as many counts of two digits as 250 characters allow.
     longest = [block([48 + number], 10, 10) * 25 + block((), 0, 0) * 7 for number in range(8)]
-    cases.lent(file_of(longest, []), 20_000, 70_000)
+    cases.lent(file_of(longest, []), 40_000, 70_000)
+    # With codes of all numbers of a base. The report is longer than it once could be, and does not fit into less.
+    highest = [block([31 * number], 10, 10) * 25 + block((), 0, 0) * 7 for number in range(1, 9)]
+    for rules in ([], [(BEFORE, 4, 5), (AT_MOST, 1, 8)], [(BEFORE, 5, 4)]):
+        cases.lent(file_of(highest, rules, b"WIDE"))
+    cases.each(file_of(highest, [], b"WIDE"), (OLD_SIZE, REPORT_WANTED - 1), (WORK_WANTED,))
     for rules in ([(AT_MOST, number % 7 + 1, 8) for number in range(16)], [(EQUAL, 7, 8)]):
         cases.each(file_of(longest, rules), (REPORT_WANTED - 1, REPORT_WANTED), (WORK_WANTED,))
     cases.lent(file_of([block([48 + number], 0, 7) * 32 for number in range(8)], [(AT_MOST, 1, 2), (BEFORE, 7, 8)] * 8))
@@ -179,7 +188,7 @@ def large_cases(cases):
 
 
 def sampled_cases(cases):
-    """The files that `file` makes: all that are run, a part of the refused ones, by turns with buffers of all lengths."""
+    """The files that `file` makes: all that are run, part of the refused ones, by turns with buffers of any length."""
     books = dict.fromkeys(bytes_read(line.split(" ")[2]) for line in file.all_cases())
     refused = 0
     for at, book in enumerate(books):

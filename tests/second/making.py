@@ -1,12 +1,15 @@
 """Making and reading cases: the fields of a line, shapes as document 01 writes them, and shapes by chance."""
 
 import re
+from itertools import combinations
 
-from shapes import MOST_BLOCKS, MOST_CHARACTERS, Refused, agree, fillings, shape_of
+from shapes import (
+    ALL_CODES, BASE_SIZE, BLOCK_SIZE, MOST_BLOCKS, MOST_CHARACTERS, WORD_CODES, Refused, agree, fillings, shape_of,
+)
 
 # Every program reads its input line by line: so many lines, each with its newline in a buffer of so many bytes.
 MOST_LINES = 1_000_000
-LINE_ROOM = 65_536
+LINE_ROOM = 66_000
 
 # Most have room for so many numbers of a line: three shapes, six numbers to a block, and what stands before them.
 MOST_NUMBERS = 640
@@ -67,10 +70,11 @@ def hold_numbers_to_room(lines, most_numbers=MOST_NUMBERS):
 
 
 def block(base, lower, upper):
-    """The four numbers of a block."""
-    low = sum(1 << code for code in base if code < 64)
-    high = sum(1 << code - 64 for code in base if code >= 64)
-    return [low, high, lower, upper]
+    """The numbers of a block."""
+    words = [0] * BASE_SIZE
+    for code in base:
+        words[code // WORD_CODES] |= 1 << code % WORD_CODES
+    return [*words, lower, upper]
 
 
 def words_of(shape):
@@ -147,7 +151,7 @@ TWO_BAD = tuple(one + other for one in ONE_EACH for other in ONE_EACH if one != 
 def unsound_blocks():
     """Blocks that are unsound in every way, the numbers also far above the limits."""
     yield from (words for _, words in WAYS)
-    # Bases of one character, and bases whose two numbers have 0 as sum, difference or common bits.
+    # Bases of one character, and bases whose first two numbers have 0 as sum, difference or common bits.
     for base in ((0,), (63,), (64,), (127,), (63, 127), (0, 64), (0, 65), range(64), range(128)):
         yield block(base, 0, 0)
     # What a narrower number or a sum that wraps would take for a small count.
@@ -215,8 +219,8 @@ ALPHABETS = (
 )
 
 
-def small_shape(dice):
-    codes = dice.pick(ALPHABETS)
+def small_shape(dice, alphabets=ALPHABETS):
+    codes = dice.pick(alphabets)
     words = []
     for _ in range(dice.between(1, 6)):
         upper = dice.pick((0, 1, 1, 1, 2, 2, 3))
@@ -264,11 +268,21 @@ def carved(dice, codes, text, blocks):
 
 SMALL_ALPHABETS = ((0, 1), (0, 1, 2), (0, 1, 2), (64, 65), (0, 64), (0, 1, 63, 64, 127))
 
-# With the blank: beside its neighbours, beside the code with its bit in the other number of a base, beside letters.
+# With the blank: beside its neighbours, beside a code with its bit in another number of a base, beside letters.
 PADDED_ALPHABETS = ((31, 32), (32, 33), (32, 96), (0, 32, 64), b" A", b" A", b" AB", b" AB")
+
+# With codes above 127: beside those below, with their bit in several numbers of a base, and at the ends of a number.
+HIGH_ALPHABETS = (
+    (127, 128), (128, 129), (191, 192), (254, 255), (0, 128), (128, 192), (64, 192), (63, 127, 191, 255),
+    (0, 64, 128, 192),
+)
+LARGE_HIGH_ALPHABETS = ((128, 192), range(124, 132), range(188, 196), (0, 64, 128, 192), ALL_CODES)
 
 # With letters in both cases: alone, beside their neighbours that are none, beside the blank, and two of them.
 CASE_ALPHABETS = (b"Aa", b"@A`a", b"Z[z{", b" Nn", b"MNmn", b"MNmn")
+
+# Letters and the blank beside codes with the same bits in the upper numbers of a base.
+HIGH_CASE_ALPHABETS = (b"Aa\xc1\xe1", b" \xa0", b"n\xee\xce", b" A\xe1")
 
 
 def same(text):
@@ -329,7 +343,7 @@ def edge_pairs():
     for first in shapes:
         for second in shapes:
             yield first, second
-    # The least and greatest codes of both numbers of a base.
+    # The least and greatest codes of the first two numbers of a base.
     codes = [block([code], 1, 1) for code in (0, 63, 64, 127)]
     codes += [block((0, 63, 64, 127), 0, 2), block((0, 127), 1, 2), block((63, 64), 1, 2), block(range(128), 2, 2)]
     for first in codes:
@@ -338,12 +352,62 @@ def edge_pairs():
             yield first + second, second + first
 
 
+# The least and greatest codes of the numbers of a base, but for 0.
+WORD_ENDS = (63, 64, 127, 128, 191, 192, 255)
+
+
+def high_pairs():
+    """Pairs at the ends of every number of a base."""
+    for code in WORD_ENDS:
+        # Itself, and the codes with the same bit in another number.
+        for other in (code, code ^ 64, code ^ 128, code ^ 192):
+            yield block([code], 1, 1), block([other], 0, 2)
+        # Bases that meet in it only, and one that has its neighbour alone; all codes, and all others.
+        behind = block([code, min(code + 1, 255)], 2, 3)
+        yield block([code - 1, code], 1, 2), behind
+        yield block([code - 1], 1, 1), behind
+        yield block([code], 1, 1), block(ALL_CODES, 0, 2)
+        yield block([other for other in ALL_CODES if other != code], 0, 2), block([code], 1, 1)
+    # A text that goes over from one number to the next.
+    for low, high in ((63, 64), (127, 128), (191, 192), (254, 255)):
+        yield block([low], 1, 1) + block([high], 1, 1), block([low, high], 2, 2)
+        yield block([low], 0, 2) + block([high], 0, 2), block([high], 1, 1) + block([low], 0, 1)
+    # Large bases, and such as would meet if their third and fourth number were exchanged in one of them.
+    bases = [ALL_CODES, range(128), range(128, 256), range(128, 192), range(192, 256)]
+    bases += [ALL_CODES[::2], ALL_CODES[1::2], (129, 192), (128, 193)]
+    for one, other in combinations(bases, 2):
+        yield block(one, 1, 2), block(other, 2, 3)
+
+
+# Shapes of blocks of four numbers, as they once were. Of three of them, and of 33, two blocks and 22 can be read.
+OLD_SHAPES = tuple([6, 0, 0, 3] * count for count in (1, 2, 3, 4, 32, 33))
+
+
+def high_unsound_blocks():
+    """Blocks with a base against the upper 0: of codes above 127 only, or with numbers whose sum, difference or common
+    bits are 0."""
+    for base in ((128,), (191,), (192,), (255,), (63, 127, 191, 255), (191, 255), (63, 191), (128, 192), ALL_CODES):
+        yield block(base, 0, 0)
+
+
+def drawn_high_pairs(dice, number, most_fillings):
+    """Pairs with codes above 127: so many small ones, some large ones, and some of which one shape is refused."""
+    for _ in range(number):
+        yield small_pair(dice, most_fillings, HIGH_ALPHABETS)
+    for _ in range(6):
+        yield large_pair(dice, LARGE_HIGH_ALPHABETS)
+    good = block([128], 1, 1)
+    for bad in high_unsound_blocks():
+        yield bad, good
+        yield good, good + bad
+
+
 def refused_pairs():
     """Pairs of which one shape or both are refused, for every reason, and one that is not."""
     good = block(b"AB", 0, 3)
     bad = block(b"A", 2, 1)
     heavy = block(b"A", 0, 200)
-    shapes = [[], [1], good[:3], good + [7], good * 33, good * 32 + [0]]
+    shapes = [[], [1], good[:-1], good + [7], good * 33, good * 32 + [0]]
     shapes += [bad, good + bad, good + bad + bad, bad + heavy * 2, heavy * 2 + bad, bad + good * 32, bad + [0]]
     shapes += [heavy * 2, block(b"A", 0, 251), many_blocks(32, 251), many_blocks(2, 251)]
     for first in shapes:
@@ -356,7 +420,7 @@ def refused_pairs():
     for shape in TWO_BAD:
         yield shape, good
         yield good, good + shape
-        yield shape[:4], shape[4:]
+        yield shape[:BLOCK_SIZE], shape[BLOCK_SIZE:]
     for unsound in unsound_blocks():
         yield unsound, good
         yield good, good + unsound

@@ -6,7 +6,8 @@ import joins
 import pairs
 from joins import JOIN, narrowed_join
 from making import (
-    CASE_ALPHABETS, NUMBER_FILLER, ONE_EACH, PADDED_ALPHABETS, Dice, block, carved, counted, edge_pairs, hexes,
+    CASE_ALPHABETS, HIGH_ALPHABETS, HIGH_CASE_ALPHABETS, LARGE_HIGH_ALPHABETS, NUMBER_FILLER, OLD_SHAPES, ONE_EACH,
+    PADDED_ALPHABETS, WORD_ENDS, Dice, block, carved, counted, edge_pairs, hexes, high_pairs, high_unsound_blocks,
     hold_numbers_to_room, large_pair, lists_read, many_blocks, numbers_read, padded_anew, random_filling, recased,
     refused_pairs, shared_out, small_blocks, small_pair, unsound_blocks, words_of, written,
 )
@@ -15,13 +16,17 @@ from pairs import (
     in_other_case, narrowed,
 )
 from shapes import (
-    BLANK, MOST_BLOCKS, MOST_CHARACTERS, WORK_WANTED, Refused, agree, fillings, pair_of, shape_of, trio_of,
+    ALL_CODES, BLANK, BLOCK_SIZE, MOST_BLOCKS, MOST_CHARACTERS, WORK_WANTED, Refused, agree, fillings, pair_of,
+    shape_of, trio_of,
 )
 from sweep import places
 
 # What the program has room for.
-LONGEST_OUTPUT = 200
+LONGEST_OUTPUT = 210
 LONGEST_WORK = 70_000
+
+# Pairs and trios of at most so many numbers are asked in more ways.
+FEW_NUMBERS = 10 * BLOCK_SIZE
 
 
 # The expected line of a case.
@@ -59,13 +64,13 @@ def expected_line(line):
         if work < WORK_WANTED:
             raise Refused(4, 0, 0)
         for number, (shape, output) in enumerate(zip(shapes, outputs), 1):
-            if len(output) < 4 * len(shape):
+            if len(output) < BLOCK_SIZE * len(shape):
                 raise Refused(5, number, 0)
         accepted = True
         result = result_of(kind, shapes)
         head = "none" if result is None else "narrow"
         for shape, output in zip(result or (), outputs):
-            output[: 4 * len(shape)] = words_of(shape)
+            output[: BLOCK_SIZE * len(shape)] = words_of(shape)
     except Refused as refusal:
         head = refusal.line
     fields = [head]
@@ -195,7 +200,7 @@ def lent_cases(cases):
 def refusal_cases(cases):
     for at, (first, second) in enumerate(refused_pairs()):
         cases.add(by_turns(at), first, second)
-        if len(first) + len(second) < 40:
+        if len(first) + len(second) <= FEW_NUMBERS:
             # Each also with a work buffer and outputs that are too short, which come last.
             cases.add(by_turns(at + 1), first, second, work=WORK_WANTED - 1)
             cases.add(by_turns(at + 2), first, second, work=0, length=0, other_length=0)
@@ -422,7 +427,7 @@ def join_table_cases(cases):
     shapes = ("empty 0..0", "a0..1", "a1..1", "b0..1", "a0..2 b0..1", "empty 0..0 {a,b}1..2")
     for trio in product(map(written, shapes), repeat=3):
         cases.join(*trio)
-    # The least and greatest codes of both numbers of a base.
+    # The least and greatest codes of the first two numbers of a base.
     codes = [block([code], 1, 1) for code in (0, 63, 64, 127)]
     for front in codes:
         for back in codes:
@@ -458,7 +463,7 @@ TOGETHER = (
 def refused_trios():
     """Trios with shapes refused for every reason, and with parts too long to be joined, alone and together."""
     good, bad, heavy, long = block(b"AB", 0, 3), block(b"A", 2, 1), block(b"A", 0, 200), block(b"A", 0, 126)
-    shapes = [[], [1], good[:3], good + [7], good * 33, good + bad + bad, bad + heavy * 2, heavy * 2 + bad]
+    shapes = [[], [1], good[:-1], good + [7], good * 33, good + bad + bad, bad + heavy * 2, heavy * 2 + bad]
     shapes += [heavy * 2, many_blocks(32, 251), *ONE_EACH]
     for shape in shapes:
         yield shape, good, good
@@ -492,7 +497,7 @@ def refused_trios():
 def join_refusal_cases(cases):
     for at, trio in enumerate(refused_trios()):
         cases.join(*trio)
-        if sum(map(len, trio)) < 40 and at % 2:
+        if sum(map(len, trio)) <= FEW_NUMBERS and at % 2:
             # Also with a work buffer and outputs that are too short, which come last.
             work, length = ((0, 0), (WORK_WANTED - 1, None), (WORK_WANTED, 0))[at % 3]
             cases.join(*trio, work, [length] * 3)
@@ -505,7 +510,7 @@ def small_trio(dice, alphabets=TRIO_ALPHABETS):
     """Three shapes over one alphabet with few fillings; in most the whole takes some text of front and back."""
     while True:
         codes = dice.pick(alphabets)
-        front, back = (small_blocks(dice, codes)[: 4 * dice.between(1, 3)] for _ in range(2))
+        front, back = (small_blocks(dice, codes)[: BLOCK_SIZE * dice.between(1, 3)] for _ in range(2))
         way = dice.below(8)
         if way < 5:
             text = random_filling(dice, shape_of(front)) + random_filling(dice, shape_of(back))
@@ -572,6 +577,12 @@ def steep_runs(dice, codes):
     return [(dice.pick(codes), dice.between(7, 9)) for _ in range(24)], dice.between(8, 22)
 
 
+def steep_pair(dice, alphabets):
+    codes = dice.pick(alphabets)
+    runs, late = steep_runs(dice, codes)
+    return [steep(dice, codes, runs, dice.between(26, MOST_BLOCKS), late, rising) for rising in (True, False)]
+
+
 STEEP_ALPHABETS = (b"ABCDEFGH", range(60, 70), range(28, 38), range(0, 128, 5))
 
 
@@ -580,10 +591,7 @@ def steep_cases(cases):
     long, so that most blocks lose characters."""
     dice = Dice(27)
     for _ in range(6):
-        codes = dice.pick(STEEP_ALPHABETS)
-        runs, late = steep_runs(dice, codes)
-        pair = [steep(dice, codes, runs, dice.between(26, MOST_BLOCKS), late, rising) for rising in (True, False)]
-        cases.kinds(*pair)
+        cases.kinds(*steep_pair(dice, STEEP_ALPHABETS))
     for _ in range(4):
         codes = dice.pick(STEEP_ALPHABETS)
         runs, late = steep_runs(dice, codes)
@@ -745,7 +753,7 @@ def any_case_limit_cases(cases):
     for at, (first, second) in enumerate(refused_pairs()):
         if at % 4 == 0:
             cases.add(ANY_CASE, first, second)
-        elif at % 8 == 1 and len(first) + len(second) < 40:
+        elif at % 8 == 1 and len(first) + len(second) <= FEW_NUMBERS:
             cases.add(ANY_CASE, first, second, WORK_WANTED - 1, 0, 0)
 
 
@@ -814,6 +822,100 @@ def any_case_cases(cases):
     any_case_large_cases(cases)
 
 
+# Codes above 127: kind, the shapes and the answer as it is found by hand, True for the shapes as entered. µ has its bit
+# where 5, u and õ have theirs in other numbers of a base.
+HIGH = (
+    (EXACT, "{a,ä}1..2", "{ä,ö}1..1", ("ä1..1", "ä1..1")),
+    (EXACT, "µ1..1", "{5,u,õ}1..1", None),
+    (EXACT, "{5,u,µ,õ}1..1", "{4..6,µ}1..2", ("{5,µ}1..1", "{5,µ}1..1")),
+    (EXACT, "{0..9}1..3 °0..1 C1..1", "{0..9,°}2..4 C0..1", ("{0..9}1..3 °0..1 C1..1", "{0..9,°}2..4 C1..1")),
+    (EXACT, "{À..ÿ}0..3", "{\x80..¿}0..3", ("empty 0..0", "empty 0..0")),
+    # No code but 32 is a blank.
+    (EQUAL, "a1..1 {\xa0}1..1", "a1..1", None),
+    (EQUAL, "a1..1 {\xa0, }2..2", "a1..1", ("a1..1 { }2..2", "a1..1")),
+    (EQUAL, "ä1..1 { }3..3", "{a..ÿ}1..2", ("ä1..1 { }3..3", "ä1..1")),
+    (EQUAL, "ÿ249..249 { }1..1", "ÿ0..250", ("ÿ249..249 { }1..1", "ÿ249..249")),
+    # No letter but A to Z has a case.
+    (ANY_CASE, "Ä1..1", "ä1..1", None),
+    (ANY_CASE, "{N,Ä}1..1", "{n,ä}1..1", ("N1..1", "n1..1")),
+    (ANY_CASE, "Ä1..1 N1..1", "Ä1..1 n1..1", True),
+    (ANY_CASE, "{A..Z,À..Þ}0..3", "{a..z,à..þ}2..2", ("{A..Z}2..2", "{a..z}2..2")),
+    (ANY_CASE, "{Á,á}1..1", "{A,a}1..1", None),
+    (ANY_CASE, "{\x81,¡}1..1", "{A,a,Á,á}1..1", None),
+    (ANY_CASE, "{ ..ÿ}1..1", "{n,ñ}1..1", ("{N,n,ñ}1..1", "{n,ñ}1..1")),
+    # Every code above 127 comes behind all below.
+    (AT_MOST, "ä1..1", "z1..1", None),
+    (AT_MOST, "z1..1", "ä1..1", True),
+    (AT_MOST, "{z,ä}1..1", "{z,~}1..1", ("z1..1", "{z,~}1..1")),
+    (AT_MOST, "{¿,À}2..2", "¿1..1 {¿,À}1..1", True),
+    (BEFORE, "{\x7f,\x80}1..1", "\x801..1", ("\x7f1..1", "\x801..1")),
+    (BEFORE, "{¿,À}1..1", "À1..1", ("¿1..1", "À1..1")),
+    (BEFORE, "À1..1", "{¿,À}1..1", None),
+    (BEFORE, "ÿ1..1", "ÿ0..2", ("ÿ1..1", "ÿ2..2")),
+    (BEFORE, "{þ,ÿ}1..1", "ÿ1..1", ("þ1..1", "ÿ1..1")),
+    (JOIN, "{0..9,C,°}2..5", "{0..9}1..3", "°0..1 C1..1", True),
+    (JOIN, "µ1..1 m1..1", "u0..1 µ0..1", "{m,µ}1..2", ("µ1..1 m1..1", "empty 0..0 µ0..1", "{m,µ}1..2")),
+    (JOIN, "{¿,À}2..2", "{¿,Á}1..1", "{À,Á}0..2", ("{¿,À}2..2", "¿1..1", "À1..1")),
+    (JOIN, "51..1", "µ0..1", "{5,µ}1..1", ("51..1", "empty 0..0", "51..1")),
+    (JOIN, "51..1", "µ1..1", "{5,µ}0..1", None),
+)
+
+
+def high_table_cases(cases):
+    for kind, *shapes, answer in HIGH:
+        words = [written(shape) for shape in shapes]
+        found = narrowed_join(*trio_of(*words)) if kind == JOIN else narrowed(*pair_of(*words), kind)
+        hold_to_answer("codes above 127, found by hand", words, found, tuple(shapes) if answer is True else answer)
+        if kind == JOIN:
+            cases.join(*words)
+        else:
+            cases.kinds(*words, KINDS)
+
+
+def high_code_cases(cases):
+    """The ends of every number of a base, codes that differ as two cases or as a blank and another, and joins; then
+    blocks of four numbers."""
+    for at, (first, second) in enumerate(high_pairs()):
+        cases.kinds(first, second, KINDS if at % 2 == 0 else (KINDS[at % len(KINDS)],))
+    for code in (128, 129, 154, 155, 159, 160, 191, 192, 193, 214, 218, 219, 222, 223):
+        cases.equalities(block([code], 1, 1), block([code + 32], 0, 1), (ANY_CASE,))
+    for code in (128, 160, 192, 224, 255):
+        cases.equalities(written("A1..1") + block([code], 1, 2), written("A1..1"))
+        cases.equalities(block([code, BLANK], 3, 3), block([code, BLANK], 1, 1))
+    for front, back in zip(WORD_ENDS, WORD_ENDS[1:] + WORD_ENDS[:1]):
+        cases.join(block([front], 1, 1) + block([back], 0, 1), block([front, back], 1, 1), block([back], 0, 2))
+        cases.join(block(ALL_CODES, 0, 2), block([front], 0, 1), block([back], 1, 1))
+        cases.join(block([front], 1, 1), block([front ^ 64, front], 0, 1), block([front ^ 128, front], 0, 1))
+    good = block([128], 0, 1)
+    for at, bad in enumerate(high_unsound_blocks()):
+        cases.add(KINDS[at % len(KINDS)], bad, good)
+        cases.join(good, good, good + bad)
+    for at, shape in enumerate(OLD_SHAPES):
+        for pair in ((shape, good), (good, shape)):
+            cases.add(KINDS[at % len(KINDS)], *pair)
+            cases.join(good, *pair)
+
+
+def high_random_cases(cases):
+    dice = Dice(30)
+    for _ in range(60):
+        cases.kinds(*small_pair(dice, FEW_FILLINGS, HIGH_ALPHABETS))
+    for _ in range(40):
+        cases.kinds(*small_pair(dice, FEW_FILLINGS, HIGH_CASE_ALPHABETS, lambda text: recased(dice, text)), EQUALITIES)
+    for _ in range(40):
+        cases.join(*small_trio(dice, HIGH_ALPHABETS))
+    for number in range(10):
+        cases.add(KINDS[number % len(KINDS)], *large_pair(dice, LARGE_HIGH_ALPHABETS))
+    for _ in range(4):
+        cases.kinds(*steep_pair(dice, (range(120, 136), range(184, 200), ALL_CODES[::9])))
+
+
+def high_cases(cases):
+    high_table_cases(cases)
+    high_code_cases(cases)
+    high_random_cases(cases)
+
+
 def join_cases(cases):
     join_table_cases(cases)
     join_lent_cases(cases)
@@ -832,7 +934,7 @@ def all_cases():
     lent_cases(cases)
     refusal_cases(cases)
     for at, (first, second) in enumerate(edge_pairs()):
-        if len(first) + len(second) <= 40:
+        if len(first) + len(second) <= FEW_NUMBERS:
             cases.kinds(first, second)
         else:
             cases.add(by_turns(at), first, second)
@@ -849,6 +951,7 @@ def all_cases():
     join_cases(cases)
     steep_cases(cases)
     any_case_cases(cases)
+    high_cases(cases)
     return cases.lines
 
 

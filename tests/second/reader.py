@@ -22,6 +22,7 @@ def all_cases():
             cases.bounds(block((), 0, 0) * count, length)
             cases.bounds(block(range(128), 1, 1) * count, length)
             cases.bounds(block(b"A", 2, 1) * count, length)
+        cases.bounds(block(range(128, 256), 1, 1) * count)
         for codes in LARGE_ALPHABETS:
             for total in (count, 2 * count, MOST_CHARACTERS):
                 cases.bounds(shared_out(dice, codes, count, total))

@@ -9,13 +9,15 @@ that are looked at by the definition alone (witnesses.py).
     second.py cases NAME               prints the test input of a program, always the same
     second.py expected NAME            reads a test input of that program and prints the expected output
     second.py report                   reads a book's file and prints the report that is due
+    second.py wide                     reads a book's file headed BLOCKS and prints it headed WIDE
     second.py example                  prints document 01's book, its rule of four numbers
     second.py column                   prints where the unit starts in the torque line, as `unit_column` does
     second.py witnesses CASES LINES    holds the expected lines of large cases of narrowing to fillings
 
 NAME is base, sweep, narrow, common, book, file, find, tray, host or reader. A case is a line, its fields parted by
 single blanks. A number is lowercase hex without needless zeros. A list is its count and then its numbers; a shape
-is lent as any count of 64-bit numbers, also none. Expected counts, and what a refusal tells, are decimal.
+is lent as any count of 64-bit numbers, also none, of which a block takes six. Expected counts, and what a refusal
+tells, are decimal.
 
 base. A text is its bytes as hex pairs, `-` if it is empty. The words w are the rest of the line.
 
@@ -114,6 +116,9 @@ def main(arguments):
         file.hold_to_example()
         sys.stdout.buffer.write(file.EXAMPLE if arguments == ["example"] else file.report(sys.stdin.buffer.read()))
         return
+    if arguments == ["wide"]:
+        sys.stdout.buffer.write(file.widened(sys.stdin.buffer.read()))
+        return
     if arguments == ["column"]:
         print(find.unit_column())
         return
@@ -122,7 +127,7 @@ def main(arguments):
         print(f"{cases} large cases held to {searched} fillings searched for and {met} met by chance")
         return
     if len(arguments) != 2 or arguments[0] not in ("cases", "expected") or arguments[1] not in NAMES:
-        usage = "second.py cases NAME | expected NAME | report | example | column | witnesses CASES LINES"
+        usage = "second.py cases NAME | expected NAME | report | wide | example | column | witnesses CASES LINES"
         sys.exit(f"{usage}, NAME one of {', '.join(NAMES)}")
     part = NAMES[arguments[1]]
     if arguments[0] == "cases":

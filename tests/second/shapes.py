@@ -1,8 +1,16 @@
-"""What document 01 says of shapes, fillings and refusals; document 02, orders 1 and 3, of bad blocks and of joins."""
+"""What document 01 says of shapes, fillings and refusals; document 02, orders 1, 3 and 10, of bad blocks, of joins and
+of the numbers of a block.
+"""
 
 from functools import lru_cache
 from itertools import product
 from typing import NamedTuple
+
+# A base is so many numbers, each with the bits of so many codes; a block is those of its base, its lower and its upper.
+BASE_SIZE = 4
+WORD_CODES = 64
+BLOCK_SIZE = BASE_SIZE + 2
+ALL_CODES = range(BASE_SIZE * WORD_CODES)
 
 MOST_BLOCKS = 32
 MOST_CHARACTERS = 250
@@ -12,7 +20,7 @@ WORK_WANTED = 63_001
 BLANK = 32
 
 # Each character with A to Z counted as a to z: document 02, order 9.
-LOWERED = tuple(code + 32 if 65 <= code <= 90 else code for code in range(128))
+LOWERED = tuple(code + 32 if 65 <= code <= 90 else code for code in ALL_CODES)
 
 # Shapes with at most so many fillings are settled by looking at every one of them.
 FEW_FILLINGS = 5000
@@ -32,9 +40,10 @@ class Refused(Exception):
         self.line = f"refused {number} {text} {place}"
 
 
-def base_of(low, high):
-    """The characters of a base in rising order: 0 to 63 in the first number, the rest in the second."""
-    return tuple(code for code in range(128) if (low, high)[code // 64] >> code % 64 & 1)
+@lru_cache(maxsize=None)
+def base_of(*words):
+    """The characters of a base in rising order: 0 to 63 in the first number, 64 to 127 in the second, and so on."""
+    return tuple(code for code in ALL_CODES if words[code // WORD_CODES] >> code % WORD_CODES & 1)
 
 
 def sound(block):
@@ -58,13 +67,13 @@ def total(shape):
 
 def shape_of(words, number=1):
     """The blocks of the shape lent as `words`, the shape's number being `number`."""
-    blocks, rest = divmod(len(words), 4)
+    blocks, rest = divmod(len(words), BLOCK_SIZE)
     if rest != 0 or blocks == 0 or blocks > MOST_BLOCKS:
         raise Refused(1, number, 0)
     shape = []
-    for at in range(0, len(words), 4):
-        low, high, lower, upper = words[at : at + 4]
-        shape.append(Block(base_of(low, high), lower, upper))
+    for at in range(0, len(words), BLOCK_SIZE):
+        *base, lower, upper = words[at : at + BLOCK_SIZE]
+        shape.append(Block(base_of(*base), lower, upper))
         due = [refusal for refusal, wrong in WRONG.items() if wrong(shape[-1])]
         agree("soundness", shape[-1], sound(shape[-1]), not due)
         if due:

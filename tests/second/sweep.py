@@ -3,11 +3,11 @@
 from functools import lru_cache
 
 from making import (
-    NUMBER_FILLER, Dice, counted, edge_pairs, hexes, hold_numbers_to_room, large_pair, lists_read, numbers_read,
-    refused_pairs, small_pair, written,
+    NUMBER_FILLER, OLD_SHAPES, Dice, block, counted, drawn_high_pairs, edge_pairs, hexes, high_pairs,
+    hold_numbers_to_room, large_pair, lists_read, numbers_read, refused_pairs, small_pair, written,
 )
 from pairs import EXACT, narrowed_by_rows
-from shapes import Refused, agree, all_runs, fillings, pair_of, shape_of
+from shapes import BLOCK_SIZE, Refused, agree, all_runs, fillings, pair_of, shape_of
 
 # Pairs of shapes with at most so many pairs of fillings are held to every one of them.
 FEW_PAIRS = 40_000
@@ -181,7 +181,7 @@ class Cases:
 
     def add(self, first, second, length=None):
         """A case; without a length the output is exactly as long as it has to be."""
-        length = len(first) // 4 * 2 if length is None else length
+        length = len(first) // BLOCK_SIZE * 2 if length is None else length
         self.lines.append(" ".join(["S", *hexes([length, *counted(first), *counted(second)])]))
 
     def both(self, first, second):
@@ -239,7 +239,7 @@ def output_cases(cases):
         ("empty 0..0 empty 0..0", "empty 0..0"),
     ):
         first, second = written(first), written(second)
-        wanted = len(first) // 2
+        wanted = len(first) // BLOCK_SIZE * 2
         for length in sorted({0, 1, wanted - 1, wanted, wanted + 1, wanted + 2, wanted * 2, 65}):
             cases.add(first, second, length)
     for length in (0, 2, 62, 63, 64, 65, 128, 129, LONGEST_OUTPUT):
@@ -250,10 +250,20 @@ def output_cases(cases):
 def refusal_cases(cases):
     for first, second in refused_pairs():
         cases.add(first, second)
-        if len(first) // 4 * 2 <= 4:
+        if len(first) // BLOCK_SIZE * 2 <= 4:
             # Too short as well, which comes last.
             cases.add(first, second, 0)
             cases.add(first, second, 3)
+
+
+def high_cases(cases):
+    """Codes above 127, and blocks of four numbers."""
+    for first, second in high_pairs():
+        cases.both(first, second)
+    for first, second in drawn_high_pairs(Dice(12), 120, FEW_FILLINGS):
+        cases.add(first, second)
+    for shape in OLD_SHAPES:
+        cases.both(shape, block([128], 1, 1))
 
 
 def all_cases():
@@ -269,6 +279,7 @@ def all_cases():
         cases.add(*small_pair(dice, FEW_FILLINGS))
     for _ in range(110):
         cases.add(*large_pair(dice))
+    high_cases(cases)
     return cases.lines
 
 

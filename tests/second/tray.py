@@ -10,16 +10,15 @@ from itertools import permutations, product
 
 import sweep
 from making import (
-    ALPHABETS, NUMBER_FILLER, ONE_EACH, SMALL_ALPHABETS, TWO_BAD, Dice, block, counted, edge_pairs, hexes,
-    hold_numbers_to_room, large_pair, lists_read, many_blocks, numbers_read, refused_pairs, small_pair, unsound_blocks,
-    written,
+    ALPHABETS, HIGH_ALPHABETS, LARGE_HIGH_ALPHABETS, NUMBER_FILLER, ONE_EACH, SMALL_ALPHABETS, TWO_BAD, Dice, block,
+    counted, edge_pairs, hexes, high_pairs, high_unsound_blocks, hold_numbers_to_room, large_pair, lists_read,
+    many_blocks, numbers_read, refused_pairs, small_pair, unsound_blocks, written,
 )
-from shapes import MOST_BLOCKS, Refused, agree, shape_of
+from shapes import BLOCK_SIZE, MOST_BLOCKS, Refused, agree, shape_of
 
 MOST_PAIRS = 64
 
-# The numbers of a block and those of a pair: two sizes that have nothing to do with each other.
-BLOCK_SIZE = 4
+# The numbers of a pair.
 PAIR_SIZE = 4
 
 # Room for the places of any shape, so that the single call never finds its output too short.
@@ -30,8 +29,8 @@ AS_FOUND = f"cannot {NUMBER_FILLER}"
 
 # What the program has room for; a run beside the most pairs may have only so many numbers.
 LONGEST_ROW = 66
-MOST_NUMBERS = 600
-MOST_BESIDE_PAIRS = 330
+MOST_NUMBERS = 800
+MOST_BESIDE_PAIRS = 494
 
 GREATEST = 2**64 - 1
 
@@ -203,7 +202,18 @@ ANSWERS = (
         "judged / places 2 / refused 14 2 0 0 / refused 14 1 0 0 / refused 1 1 0 0",
     ),
     ("a1..1", 1, [(0, 1, 0, 1), (0, 0, 0, 0)], 2, "judged / refused 14 1 0 0 / refused 1 1 0 0"),
-    ("a1..1", 4, [(0, 1, 0, 1), (0, 0, 0, 0)], 2, "judged / refused 14 1 0 0 / refused 1 1 0 0"),
+    ("a1..1", 6, [(0, 1, 0, 1), (0, 0, 0, 0)], 2, "judged / refused 14 1 0 0 / refused 1 1 0 0"),
+    # Of 4 numbers, of 8 and of 20 there are none, one and three whole blocks.
+    ("a1..1", 2, [(0, 1, 0, 1), (0, 0, 0, 0)], 2, "judged / refused 14 1 0 0 / refused 1 1 0 0"),
+    ("a1..1 b1..1", 4, [(0, 1, 0, 1), (0, 1, 1, 2), (1, 1, 0, 1)], 3,
+     "judged / places 2 / refused 14 2 0 0 / refused 1 1 0 0"),
+    ("a1..1 " * 4, 4, [(0, 3, 0, 3), (0, 4, 0, 1), (2, 3, 3, 4), (0, 5, 0, 1)], 4,
+     "judged / places 10 / refused 14 1 0 0 / refused 14 2 0 0 / refused 14 1 0 0"),
+    # Latin signs: µ has its bit where 5, u and õ have theirs in other numbers of a base.
+    ("µ1..1 51..1 u1..1 õ1..1", 0, [(0, 1, 0, 1), (0, 1, 1, 2), (0, 1, 2, 3), (0, 1, 3, 4), (3, 4, 2, 3)], 5,
+     "judged / places 2 / cannot 1 / cannot 1 / cannot 1 / cannot 1"),
+    ("{õ,ö}0..2 {ö,÷}1..1 ÷1..1", 0, [(0, 1, 1, 2), (1, 2, 2, 3), (0, 1, 2, 3)], 3,
+     "judged / places 1 / places 2 / cannot 1"),
     # Products that are small at 64 bits.
     (
         "a1..1", 0, [(2**62, 2**62 + 1, 0, 1), (0, 1, 2**62, 2**62 + 1), (0, 2**63 + 1, 0, 1), (0, 1, GREATEST, 1)], 4,
@@ -282,7 +292,7 @@ def list_cases():
 def short_run_cases():
     """Runs of few numbers, whole blocks or not, with every pair of ranges that end within or one past them."""
     numbers = written("a0..1 {a,b}1..2 b1..1 a1..1")
-    for length in (*range(10), 11, 12, 15):
+    for length in (*range(14), 17, 18, 23):
         bounds = range(length // BLOCK_SIZE + 2)
         yield from trays(numbers[:length], all_pairs([*product(bounds, repeat=2)]))
 
@@ -333,6 +343,17 @@ def far_cases():
     for far in (2**62, 2**63, 3 * 2**62):
         # As many as there can be: each would be a sound one, or an empty one, if its numbers were multiplied.
         yield tray(run, [(far + a, far + b, far + c, far + d) for a, b, c, d in product(range(2), repeat=4)] * 4)
+
+
+# Both sides of where six times a number would wrap.
+SIXTHS = [times * 2**64 // BLOCK_SIZE + more for times in range(1, BLOCK_SIZE) for more in (0, 1)]
+
+
+def sixth_cases():
+    run = written("a1..1 {a,b}0..2 a1..2 b0..1")
+    for far in SIXTHS:
+        pairs = [bounds + (2, 3) for bounds in far_ranges(far)]
+        yield tray(run, [*pairs, *map(exchanged, pairs), (0, 1, 2, 3)])
 
 
 # Sound pairs of both verdicts, and pairs that are bad in every way.
@@ -527,6 +548,17 @@ def large_cases():
         yield from gathered(dice, [(first, second), (second, first)], 2)
 
 
+def high_cases():
+    """Codes above 127."""
+    dice = Dice(89)
+    yield from gathered(dice, high_pairs(), 20)
+    yield from gathered(dice, (small_pair(dice, sweep.FEW_FILLINGS, HIGH_ALPHABETS) for _ in range(90)), 12)
+    yield from gathered(dice, (large_pair(dice, LARGE_HIGH_ALPHABETS) for _ in range(4)), 2)
+    unsound = list(high_unsound_blocks())
+    ranges = [(at, at + 1) for at in range(len(unsound) + 1)]
+    yield from trays(joined(unsound) + block([128], 1, 1), [(*bounds, *ranges[-1]) for bounds in ranges])
+
+
 # By chance altogether.
 
 
@@ -590,7 +622,7 @@ def all_cases():
     parts = (
         hand_cases, range_cases, list_cases, short_run_cases, run_end_cases, far_cases, position_cases, limit_cases,
         refusal_cases, tiny_cases, every_range_cases, length_cases, edge_cases, small_cases, one_way_cases,
-        large_cases, random_cases,
+        large_cases, random_cases, sixth_cases, high_cases,
     )
     # None twice.
     return list(dict.fromkeys(case_shown(*case) for part in parts for case in part()))

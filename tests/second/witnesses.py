@@ -15,7 +15,7 @@ from joins import JOIN
 from making import Dice, numbers_read, padded_anew, random_filling, recased
 from narrow import case_read
 from pairs import ANY_CASE, AT_MOST, BEFORE, EQUAL, HOLDS, KINDS
-from shapes import BLANK, MOST_CHARACTERS, shape_of, total
+from shapes import ALL_CODES, BLANK, MOST_CHARACTERS, shape_of, total
 
 # Shapes are large if there are so many pairs of places in them.
 LARGE = 1000
@@ -46,7 +46,7 @@ def keeps(kind, texts):
 
 
 # What a block is given is a set of bits: one for each character, and behind them one for each count.
-COUNTS = 128
+COUNTS = len(ALL_CODES)
 
 
 def count_bits(least_count, greatest_count):

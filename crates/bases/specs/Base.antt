@@ -1,5 +1,5 @@
--- Document 01, "Shapes and fillings": a base is a set of characters, lent as 64-bit numbers: bit k of the first for
--- code k, of the next for code 64 + k.
+-- Document 01, "Shapes and fillings", and document 02, order 10: a base is a set of characters, lent as 64-bit numbers:
+-- bit k of the first for code k, of the next for code 64 + k, and so on.
 use mathlib.Core.Path.{_≡_}
 use mathlib.Core.List.{List, [], _∷_}
 use Prim.Native.Nat.{ℕ, zero, suc, _+_, _-_, _*_, _/_, _%_, _^_, _≤_, _<_}
@@ -36,7 +36,7 @@ pub record Greatest (b c : ℕ) : Type 0 where
 
 -- a base is lent as so many words: characters have codes below this
 abbrev pub baseWords : ℕ
-baseWords = 2
+baseWords = 4
 
 abbrev pub codes : ℕ
 codes = baseWords * 64

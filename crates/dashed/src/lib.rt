@@ -185,7 +185,7 @@ pub fn run_book(counts: &[u64], blocks: &mut [u64], rules: &[u64], work: &mut [u
     book_calls::run_book(counts, blocks, rules, work)
 }
 
-// Runs a book file, any bytes, to its report, into an output of at least 16,384 bytes; the report's length. Refused are
+// Runs a book file, any bytes, to its report, into an output of at least 32,768 bytes; the report's length. Refused are
 // the file (9, 8), then its book, then an output too short (5). It has its own work space.
 pub fn run_file(file: &[u8], report: &mut [u8]) -> Written
     ensures { λ r. ⌜ RunFile (now (file .entry)) (now (report .entry)) (now (report .exit)) r ⌝ }

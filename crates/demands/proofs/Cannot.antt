@@ -70,11 +70,11 @@ one-run base c h = record { held = more h All.none; enough = omega arith; bounde
 
 -- ---- a field with padding, and without
 
-a-held : Holds (baseOf (0 ∷ (2 ^ 33 ∷ []))) 97
+a-held : Holds (baseOf (0 ∷ 2 ^ 33 ∷ 0 ∷ 0 ∷ [])) 97
 unfolding Holds baseOf
 a-held = refl
 
-blank-held : Holds (baseOf (2 ^ 32 ∷ (0 ∷ []))) 32
+blank-held : Holds (baseOf (2 ^ 32 ∷ 0 ∷ 0 ∷ 0 ∷ [])) 32
 unfolding Holds baseOf
 blank-held = refl
 
@@ -112,11 +112,11 @@ cannot-no-ground out out′ m m′ r u p q h room = (
 
 -- ---- a unit in capitals, and in small letters
 
-capital-held : Holds (baseOf (0 ∷ (2 ^ 14 ∷ []))) 78
+capital-held : Holds (baseOf (0 ∷ 2 ^ 14 ∷ 0 ∷ 0 ∷ [])) 78
 unfolding Holds baseOf
 capital-held = refl
 
-small-held : Holds (baseOf (0 ∷ (2 ^ 46 ∷ []))) 110
+small-held : Holds (baseOf (0 ∷ 2 ^ 46 ∷ 0 ∷ 0 ∷ [])) 110
 unfolding Holds baseOf
 small-held = refl
 

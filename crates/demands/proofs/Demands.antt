@@ -53,7 +53,7 @@ demand-1 = record {
 pub written : (d : Direction) {xs out out′ : List ℕ} (n : ℕ) → ExtremePromise d xs out out′ (Written.Text n) → take n out′ ≡ extreme d (shapeOf xs)
 written d {out} n p = ap (take n) (p .bytes) ∙ take-at _ (drop n out) n (sym (p .length-is))
 
-meant : (d : Direction) {xs out out′ : List ℕ} (n : ℕ) → ExtremePromise d xs out out′ (Written.Text n) → Extreme d (shapeOf xs) (take n out′)
+pub meant : (d : Direction) {xs out out′ : List ℕ} (n : ℕ) → ExtremePromise d xs out out′ (Written.Text n) → Extreme d (shapeOf xs) (take n out′)
 meant d n p = subst (Extreme d _) (sym (written d n p)) (p .meaning)
 
 pub demand-2 : Demand2

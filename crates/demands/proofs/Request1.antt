@@ -291,7 +291,7 @@ module _ (file : List ℕ) (b : Book) (a : FileAccepted file b) (k : ℕ) where
   run-back w room t (here (later s (here p))) x o =
       absurd (other (p .2) (λ (z : _≡_ {A = ℕ} 8 2). omega arith) (λ (z : _≡_ {A = ℕ} 8 10). omega arith) (λ (z : _≡_ {A = ℕ} 8 11). omega arith) o)
   run-back w room t (later _ (here (its-book c (here p)))) x o =
-      book-back (givenOf b) (lentBlocks b) k w t (same-book (λ (cs bs rs : List ℕ). BookRefused cs bs rs w t) a c p) x o
+      book-back (givenOf b) (lentBlocks b) k w t (same-book (λ width cs bs rs. BookRefused cs bs rs w t) a c p) x o
   run-back w room t (later _ (here (its-book c (later g (here d))))) x o = absurd (no-5 (d .tells) o)
 
 -- ---- a host, which gets the number alone

@@ -52,7 +52,7 @@ in-the-file : (b : Book) → (front : List (List ℕ)) × (writing (bookParts b)
 unfolding ruleLine twoNumbers partLines linesOf writing sheetParts bookParts
 in-the-file b =
     let texts = partLines Texts (b .sheet .counts) in
-    let blocks = partLines Blocks (b .sheet .blocks) in
+    let blocks = partLines (Blocks (b .sheet .width)) (b .sheet .blocks) in
     let rules = headLine (wordOf Rules) (length (b .rules)) in
     (texts ++ (blocks ++ (rules ∷ [])), ap joined (last-lines texts blocks rules (map fourNumbers (b .rules))))
 

@@ -8,7 +8,7 @@ use Rattle.shapes.proofs.Refused.{shape-not}
 use Rattle.find_texts.proofs.Occur.{occurs-within}
 use Rattle.find_texts.proofs.Found.{empty-first}
 use Rattle.find_texts.proofs.Whole.{lacks-or-has}
-use Rattle.find_calls.proofs.Values.{lacks, least-there, greatest-there, between, none-has, none-both, never, above-127, empty-answer, thirteen-only}
+use Rattle.find_calls.proofs.Values.{lacks, least-there, greatest-there, between, none-has, none-both, never, empty-answer, thirteen-only}
 use Rattle.demands.specs.Call.{findMark}
 use Rattle.demands.specs.Request7.{Request7}
 use Rattle.demands.proofs.Refusals.{find}
@@ -24,7 +24,6 @@ request-7 = record {
     none-has = none-has a r p;
     none-both = none-both a r p;
     never = never a r p;
-    above-127 = λ n. above-127 a r n p;
   };
   lacks-or-has = lacks-or-has;
   lacks-not-has = λ l o. l .nowhere _ o;

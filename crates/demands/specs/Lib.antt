@@ -11,3 +11,4 @@ pub mod Request6
 pub mod Request7
 pub mod Request8
 pub mod Request9
+pub mod Request10

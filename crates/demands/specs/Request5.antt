@@ -17,10 +17,10 @@ use Rattle.demands.specs.Call.{Two, sweep, NarrowMemory, newShape, HasRo
 
 -- As lent: a1..1 and a blank, and a1..1 alone.
 abbrev pub paddedField : List ℕ
-paddedField = 0 ∷ 2 ^ 33 ∷ 1 ∷ 1 ∷ 2 ^ 32 ∷ 0 ∷ 1 ∷ 1 ∷ []
+paddedField = 0 ∷ 2 ^ 33 ∷ 0 ∷ 0 ∷ 1 ∷ 1 ∷ 2 ^ 32 ∷ 0 ∷ 0 ∷ 0 ∷ 1 ∷ 1 ∷ []
 
 abbrev pub bareField : List ℕ
-bareField = 0 ∷ 2 ^ 33 ∷ 1 ∷ 1 ∷ []
+bareField = 0 ∷ 2 ^ 33 ∷ 0 ∷ 0 ∷ 1 ∷ 1 ∷ []
 
 abbrev pub fields : Two
 fields = record { x = paddedField; y = bareField }

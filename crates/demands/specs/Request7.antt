@@ -8,10 +8,10 @@ use lib.ListN.{length, getD}
 use Rattle.answers.specs.Told.{Told, tell, told}
 use Rattle.answers.specs.declared.Refusal.{Refusal}
 use Rattle.answers.specs.declared.Sought.{Sought}
-use Rattle.bases.specs.Base.{Holds, codes}
+use Rattle.bases.specs.Base.{Holds}
 use Rattle.plain.specs.All.{All}
 use Rattle.shapes.specs.Shape.{Block, Fits}
-use Rattle.shapes.specs.Lent.{Numbers, shapeOf, Accepted, ShapeRefused}
+use Rattle.shapes.specs.Lent.{shapeOf, Accepted, ShapeRefused}
 use Rattle.find_texts.specs.Occurs.{OccursAt, Lacks, FirstAt, SomeLacks, SomeFirst}
 use Rattle.find_calls.specs.Find.{Asked, lacking, leastIndex, greatestIndex}
 use Rattle.dashed.specs.Promises.{FindMark}
@@ -29,9 +29,8 @@ pub record WhereAsked (xs mark : List ℕ) (r : Sought) : Type 0 where
   -- "or that none has it": exactly then both are 0
   pub none-has : (leastIndex r ≡ 0) ↔ ((t : List ℕ) → Fits (shapeOf xs) t → Lacks mark t)
   pub none-both : leastIndex r ≡ 0 → greatestIndex r ≡ 0
-  -- a byte of the mark that no base holds never occurs, and is no refusal; so it is with every byte above 127
+  -- a byte of the mark that no base holds never occurs, and is no refusal
   pub never : (j : ℕ) → j < length mark → All (λ (b : Block). Holds (b .base) (getD mark j 0) → ⊥) (shapeOf xs) → r ≡ Sought.Nowhere
-  pub above-127 : Numbers xs → (j : ℕ) → j < length mark → codes ≤ getD mark j 0 → r ≡ Sought.Nowhere
 
 pub record Request7 : Type 0 where
   pub found : (xs mark : List ℕ) (r : Sought) → Asked xs mark → FindMark xs mark r → WhereAsked xs mark r

@@ -27,10 +27,10 @@ use Rattle.demands.specs.Request5.{Equality, BesideExact}
 
 -- As lent: the capital N alone, and the small one.
 abbrev pub capitalUnit : List ℕ
-capitalUnit = 0 ∷ 2 ^ 14 ∷ 1 ∷ 1 ∷ []
+capitalUnit = 0 ∷ 2 ^ 14 ∷ 0 ∷ 0 ∷ 1 ∷ 1 ∷ []
 
 abbrev pub smallUnit : List ℕ
-smallUnit = 0 ∷ 2 ^ 46 ∷ 1 ∷ 1 ∷ []
+smallUnit = 0 ∷ 2 ^ 46 ∷ 0 ∷ 0 ∷ 1 ∷ 1 ∷ []
 
 abbrev pub units : Two
 units = record { x = capitalUnit; y = smallUnit }

@@ -6,8 +6,7 @@ use lib.ListN.{length}
 use Rattle.rules.specs.declared.Rule.{Rule}
 use Rattle.rules.specs.Rule.{numbersOfAll}
 use Rattle.file_lines.specs.declared.Heading.the-variants.{Rules}
-use Rattle.file_lines.specs.declared.Section.{Section}
-use Rattle.file_lines.specs.Grammar.{Part, InGrammar, writing}
+use Rattle.file_lines.specs.Grammar.{Part, Section, InGrammar, writing}
 use Rattle.file_lines.specs.Book.{part, section}
 use Rattle.files.specs.Departs.{Departs}
 use Rattle.file_sections.specs.Parts.{AtFront}

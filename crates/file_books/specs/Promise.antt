@@ -13,9 +13,9 @@ use Rattle.file_books.specs.declared.Sizes.{Sizes}
 use Rattle.file_books.specs.declared.Read.{Read}
 use Rattle.file_books.specs.declared.Read.the-variants.{Book as is-book, Refused}
 
--- How many texts, blocks and rules a book has.
+-- How wide its blocks are said, and how many texts, blocks and rules a book has.
 abbrev pub sizesOf : Book → Sizes
-sizesOf b = record { texts = length (b .sheet .counts); blocks = length (b .sheet .blocks); rules = length (b .rules) }
+sizesOf b = record { width = b .sheet .width; texts = length (b .sheet .counts); blocks = length (b .sheet .blocks); rules = length (b .rules) }
 
 -- The file is the writing of a book, whose numbers stand at the front of the three outputs.
 pub record BookRead (file cs bs rs cs′ bs′ rs′ : List ℕ) (z : Sizes) : Type 0 where

@@ -2,8 +2,12 @@
 use answers::Ran;
 use answers::Written;
 use file_books::Read;
+use file_lines::Width;
 ghost use mathlib.Core.Path.{_≡_};
 ghost use lib.ListN.{replicate, length};
+ghost use Rattle.plain.specs.All.{All};
+ghost use Rattle.shapes.specs.Lent.{shapeOf};
+ghost use Rattle.file_lines.specs.Grammar.{RightBlock};
 ghost use Rattle.file_runs.specs.Promise.{LentPromise, FilePromise, BookAnswer, WorkLeft};
 
 // The work space of a run.
@@ -13,15 +17,17 @@ fn new_work() -> [u8; 63001]
     [0; 63001]
 }
 
-// Runs the book of some numbers to its report. The final shapes are left in the blocks.
+// Runs the book of some numbers to its report, as wide as it came in. The final shapes are left in the blocks.
 fn report_book(
+    width: Width,
     counts: &[u64],
     blocks: &mut [u64],
     rules: &[u64],
     report: &mut [u8],
     work: &mut [u8],
 ) -> Written
-    ensures { λ r. ⌜ BookAnswer (now (counts .entry)) (now (blocks .entry)) (now (rules .entry)) (length (now (work .entry))) (now (report .entry)) (now (report .exit)) r ⌝ }
+    requires { ⌜ All (RightBlock width) (shapeOf (now blocks)) ⌝ }
+    ensures { λ r. ⌜ BookAnswer width (now (counts .entry)) (now (blocks .entry)) (now (rules .entry)) (length (now (work .entry))) (now (report .entry)) (now (report .exit)) r ⌝ }
     ensures { λ r. ⌜ WorkLeft (now (work .entry)) (now (work .exit)) r ⌝ }
 {
     let room = report.len();
@@ -31,11 +37,17 @@ fn report_book(
     match book_calls::run_book(counts, blocks, rules, work) {
         Ran::Refused(r) => Written::Refused(r),
         Ran::None(m) => Written::Text(file_reports::write_none(m, report)),
-        Ran::Stable(m) => Written::Text(file_reports::write_stable(counts, blocks, m, report)),
+        Ran::Stable(m) => Written::Text(file_reports::write_stable(
+            width,
+            counts,
+            blocks,
+            m,
+            report,
+        )),
     }
 }
 
-// Runs a book file, any bytes, to its report, into an output of at least 16,384 bytes, with a work buffer of at least
+// Runs a book file, any bytes, to its report, into an output of at least 32,768 bytes, with a work buffer of at least
 // 63,001; the report's length. Refused are the file (9, 8), then its book with 4 for the work buffer, then an output
 // too short (5); all is then as on entry.
 pub fn run_lent(file: &[u8], report: &mut [u8], work: &mut [u8]) -> Written
@@ -47,10 +59,12 @@ pub fn run_lent(file: &[u8], report: &mut [u8], work: &mut [u8]) -> Written
     match file_books::read_book(file, &mut counts, &mut blocks, &mut rules) {
         Read::Refused(r) => Written::Refused(r),
         Read::Book(sizes) => {
+            let width = sizes.width;
             let texts = sizes.texts;
             let numbers = sizes.blocks * shapes::SIZE;
             let rule_numbers = sizes.rules * rules::SIZE;
             report_book(
+                width,
                 &counts[..texts],
                 &mut blocks[..numbers],
                 &rules[..rule_numbers],

@@ -1,15 +1,16 @@
 -- Lines taken apart: the numbers of a line are those of its parts. Assumes nothing.
 use mathlib.Core.Path.{_≡_, refl, sym, ap, _∙_, subst}
-use mathlib.Core.List.{List, [], _∷_, _++_}
-use Prim.Native.Nat.{ℕ, suc, _+_, _-_, _*_, _/_, _%_, _^_, _≤_, _<_}
+use mathlib.Core.List.{List, _∷_, _++_}
+use Prim.Native.Nat.{ℕ, _+_, _-_, _*_, _/_, _%_, _^_, _≤_, _<_}
+use native.Mathlib.Nat.{div-add-mod', mod-lt, mod-eq-of-lt, lt-of-lt-of-le, one-le-pow}
+use native.Mathlib.Numerals.{add-one}
 use native.Mathlib.Omega.{arith}
+use lib.Arith.{digits-lt}
 use lib.Dec.{lit<}
 use lib.ListN.{length, getD, take, drop, length-append, length-drop, take-append-drop}
-use lib.Seq.{take-all, length-take-le, take-at, drop-at, getD-at, take-add, drop-drop, split-at}
-use Rattle.bases.specs.Base.{Word, baseOf, wordsIn, baseWords, codes}
-use Rattle.bases.proofs.Words.{words-bound, words-count, words-small, base-back}
-use Rattle.plain.specs.All.{All}
-use Rattle.plain.specs.All.All.{none, more}
+use lib.Pow.{pow-add, pow-mono}
+use lib.Seq.{take-all, take-at, drop-at, getD-at, take-add, drop-drop, split-at}
+use Rattle.bases.specs.Base.{baseWords, codes}
 use Rattle.rules.specs.declared.Rule.{Rule}
 use Rattle.rules.specs.Rule.{ruleWith}
 use Rattle.shapes.specs.Shape.{Block}
@@ -17,7 +18,9 @@ use Rattle.plain.proofs.All.{all-map}
 use Rattle.file_numerals.specs.Digits.{digits, decimal}
 use Rattle.file_numerals.specs.Read.{wordDigits}
 use Rattle.file_numerals.proofs.Digits.{decimal-digits, digits-length, digits-split}
-use Rattle.file_lines.specs.Grammar.{RightBlock, baseDigits, headLine, twoNumbers, blockLine, ruleLine}
+use Rattle.file_lines.specs.declared.Width.{Width}
+use Rattle.file_lines.specs.declared.Width.the-variants.{Low, Wide}
+use Rattle.file_lines.specs.Grammar.{saidWords, baseDigits, headLine, twoNumbers, blockLine, ruleLine}
 use Rattle.file_lines.specs.Lines.{Without, NumberFirst}
 use Rattle.file_lines.proofs.Split.{parted}
 
@@ -72,80 +75,87 @@ pub head-rest : (t word : List ℕ) (n : ℕ) → t ≡ headLine word n → drop
 unfolding headLine
 head-rest t word n e = ap (drop (length word)) e ∙ drop-at word (decimal n) (length word) refl
 
--- ---- a block
+-- ---- a base
 
--- the hex digits of some words, the last word first
-pub spelt : List ℕ → List ℕ
-spelt [] = []
-spelt (w ∷ ws) = spelt ws ++ digits 16 wordDigits w
+-- digits cut in two
+digits-cut : (j k x : ℕ) → digits 16 (j + k) x ≡ digits 16 j (x / 16 ^ k) ++ digits 16 k (x % 16 ^ k)
+digits-cut j k x =
+    ap (digits 16 (j + k)) (sym (div-add-mod' x (16 ^ k))) ∙ digits-split 16 j k (x / 16 ^ k) (x % 16 ^ k) (lit< tt) (mod-lt x (some-power k))
+  where
+    some-power : (k : ℕ) → 0 < 16 ^ k
+    some-power k = one-le-pow k 16 (lit< tt)
 
--- a base's digits are those of its words
-pub base-digits : {ws : List ℕ} → All Word ws → digits 16 (length ws * wordDigits) (baseOf ws) ≡ spelt ws
-unfolding spelt baseOf digits
-base-digits none = refl
-base-digits (more {a = w} {l = ws} h g) =
-    let n : suc (length ws) * wordDigits ≡ length ws * wordDigits + wordDigits = omega arith in
-    ap (λ (k : ℕ). digits 16 k (baseOf ws * 2 ^ 64 + w)) n ∙ digits-split 16 (length ws * wordDigits) wordDigits (baseOf ws) w (lit< tt) h
-    ∙ ap (λ (t : List ℕ). t ++ digits 16 wordDigits w) (base-digits g)
+-- a part of a base's digits are digits
+pub digits-part : (t : List ℕ) (j k r x : ℕ) → t ≡ digits 16 (j + (k + r)) x → take k (drop j t) ≡ digits 16 k (x % 16 ^ (k + r) / 16 ^ r)
+digits-part t j k r x e =
+    let y = x % 16 ^ (k + r) in
+    ap (λ (l : List ℕ). take k (drop j l)) (e ∙ digits-cut j (k + r) x)
+    ∙ ap (take k) (drop-at (digits 16 j (x / 16 ^ (k + r))) (digits 16 (k + r) y) j (digits-length 16 j _) ∙ digits-cut k r y)
+    ∙ take-at (digits 16 k (y / 16 ^ r)) (digits 16 r (y % 16 ^ r)) k (digits-length 16 k _)
 
--- those of a block's base
-block-words : (b : Block) → RightBlock b → digits 16 baseDigits (b .base) ≡ spelt (wordsIn baseWords (b .base))
-block-words b h =
-    ap (digits 16 baseDigits) (sym (base-back (baseWords - 1) (b .base)))
-    ∙ ap (λ (n : ℕ). digits 16 (n * wordDigits) (baseOf (wordsIn baseWords (b .base)))) (sym (words-count baseWords (b .base)))
-    ∙ base-digits (words-small (baseWords - 1) (b .base) (h .base))
+-- one word more
+pub base-more : (t : List ℕ) (i b w : ℕ) {x : ℕ} → i < baseWords → b < 2 ^ (i * 64) → w < 2 ^ 64 → x ≡ (b * 2 ^ 64 + w) % 2 ^ 256
+    → take (i * wordDigits) t ≡ digits 16 (i * wordDigits) b → take wordDigits (drop (i * wordDigits) t) ≡ digits 16 wordDigits w
+    → (x < 2 ^ ((i + 1) * 64)) × (take ((i + 1) * wordDigits) t ≡ digits 16 ((i + 1) * wordDigits) x)
+base-more t i b w {x} few small word e first next = (
+  subst (λ (n : ℕ). n < 2 ^ ((i + 1) * 64)) (sym same) below,
+  ap (λ (n : ℕ). take n t) long ∙ take-add (i * wordDigits) wordDigits t ∙ (λ m. first m ++ next m) ∙ sym (digits-split 16 (i * wordDigits) wordDigits b w (lit< tt) word)
+      ∙ (λ m. digits 16 (sym long m) (sym same m)),
+)
+  where
+    long : (i + 1) * wordDigits ≡ i * wordDigits + wordDigits
+    long = omega arith
 
-module _ (t : List ℕ) (b : Block) (right : RightBlock b) (e : t ≡ blockLine b) where
+    below : b * 2 ^ 64 + w < 2 ^ ((i + 1) * 64)
+    below = subst (λ (k : ℕ). b * 2 ^ 64 + w < 2 ^ k) (let z : i * 64 + 64 ≡ (i + 1) * 64 = omega arith in z) (rw (pow-add 2 (i * 64) 64) (digits-lt small word))
+
+    same : x ≡ b * 2 ^ 64 + w
+    same = e ∙ mod-eq-of-lt (lt-of-lt-of-le below (pow-mono (let z : (i + 1) * 64 ≤ 256 = omega arith in z)))
+
+-- a line says at most all words of a base
+pub said-few : (w : Width) → saidWords w ≤ baseWords
+said-few Low = omega arith
+said-few Wide = omega arith
+
+pub said-small : (w : Width) {n : ℕ} → n < 2 ^ (saidWords w * 64) → n < 2 ^ codes
+said-small w h = lt-of-lt-of-le h (pow-mono (let f = said-few w in let z : saidWords w * 64 ≤ codes = omega arith in z))
+
+-- ---- a block, whose base is said by d digits
+
+module _ (w : Width) {d : ℕ} (many : d ≡ baseDigits w) (t : List ℕ) (b : Block) (e : t ≡ blockLine w b) where
+  said : List ℕ
+  said = digits 16 d (b .base)
+
   ends : List ℕ
   ends = 32 ∷ twoNumbers (b .lower) (b .upper)
 
-  front : length (digits 16 baseDigits (b .base)) ≡ baseDigits
-  front = digits-length 16 baseDigits (b .base)
+  line : t ≡ said ++ ends
+  unfolding blockLine said ends
+  line = e ∙ ap (λ (k : ℕ). digits 16 k (b .base) ++ ends) (sym many)
 
-  pub block-long : baseDigits < length t
-  unfolding blockLine ends
-  block-long = let l = front in let f = ap length e ∙ length-append (digits 16 baseDigits (b .base)) ends in omega arith
+  front : length said ≡ d
+  unfolding said
+  front = digits-length 16 d (b .base)
 
-  pub block-blank : getD t baseDigits 0 ≡ 32
-  unfolding blockLine
-  block-blank = ap (λ (s : List ℕ). getD s baseDigits 0) e ∙ getD-at (digits 16 baseDigits (b .base)) 32 (twoNumbers (b .lower) (b .upper)) 0 baseDigits front
+  pub block-long : d < length t
+  unfolding ends
+  block-long = let l = front in let f = ap length line ∙ length-append said ends in omega arith
 
-  pub block-rest : drop (baseDigits + 1) t ≡ twoNumbers (b .lower) (b .upper)
-  unfolding blockLine ends
-  block-rest = sym (drop-drop 1 baseDigits t) ∙ ap (drop 1) (ap (drop baseDigits) e ∙ drop-at (digits 16 baseDigits (b .base)) ends baseDigits front)
+  pub block-blank : getD t d 0 ≡ 32
+  unfolding ends
+  block-blank = ap (λ (s : List ℕ). getD s d 0) line ∙ getD-at said 32 (twoNumbers (b .lower) (b .upper)) 0 d front
 
-  -- the two words of its base
-  digits-two : take wordDigits t ++ take wordDigits (drop wordDigits t) ≡ digits 16 wordDigits (b .base / 2 ^ 64) ++ digits 16 wordDigits (b .base % 2 ^ 64)
-  unfolding blockLine ends spelt wordsIn
-  digits-two = sym (take-add wordDigits wordDigits t) ∙ ap (take baseDigits) e ∙ take-at (digits 16 baseDigits (b .base)) ends baseDigits front ∙ block-words b right
+  pub block-front : take d t ≡ digits 16 d (b .base)
+  unfolding said
+  block-front = ap (take d) line ∙ take-at said ends d front
 
-  first-long : length (take wordDigits t) ≡ wordDigits
-  first-long = length-take-le wordDigits t (let l = block-long in omega arith)
+  pub block-rest : drop (d + 1) t ≡ twoNumbers (b .lower) (b .upper)
+  unfolding ends
+  block-rest = sym (drop-drop 1 d t) ∙ ap (drop 1) (ap (drop d) line ∙ drop-at said ends d front)
 
-  pub block-high : take wordDigits t ≡ digits 16 wordDigits (b .base / 2 ^ 64)
-  block-high =
-      sym (take-at (take wordDigits t) (take wordDigits (drop wordDigits t)) wordDigits first-long) ∙ ap (take wordDigits) digits-two
-      ∙ take-at (digits 16 wordDigits (b .base / 2 ^ 64)) (digits 16 wordDigits (b .base % 2 ^ 64)) wordDigits (digits-length 16 wordDigits (b .base / 2 ^ 64))
-
-  pub block-low : take wordDigits (drop wordDigits t) ≡ digits 16 wordDigits (b .base % 2 ^ 64)
-  block-low =
-      sym (drop-at (take wordDigits t) (take wordDigits (drop wordDigits t)) wordDigits first-long) ∙ ap (drop wordDigits) digits-two
-      ∙ drop-at (digits 16 wordDigits (b .base / 2 ^ 64)) (digits 16 wordDigits (b .base % 2 ^ 64)) wordDigits (digits-length 16 wordDigits (b .base / 2 ^ 64))
-
--- a line of two words, a blank and two numbers is that of the block of base x
-module _ (l h : ℕ) (low : l < 2 ^ 64) (high : h < 2 ^ 64) {x : ℕ} (base : x ≡ baseOf (l ∷ (h ∷ []))) where
-  words : All Word (l ∷ (h ∷ []))
-  words = more low (more high none)
-
-  pub two-words : digits 16 wordDigits h ++ digits 16 wordDigits l ≡ digits 16 baseDigits x
-  unfolding spelt
-  two-words = sym (base-digits words) ∙ ap (digits 16 baseDigits) (sym base)
-
-  pub block-is : (t : List ℕ) (a b : ℕ) → baseDigits < length t → getD t baseDigits 0 ≡ 32 → take wordDigits t ≡ digits 16 wordDigits h
-      → take wordDigits (drop wordDigits t) ≡ digits 16 wordDigits l → drop (baseDigits + 1) t ≡ twoNumbers a b → t ≡ blockLine (record { base = x; lower = a; upper = b })
-  unfolding blockLine
-  block-is t a b long blank first second two =
-      split-at t baseDigits 0 long ∙ (λ m. (take-add wordDigits wordDigits t ∙ (λ i. first i ++ second i) ∙ two-words) m ++ blank m ∷ two m)
-
-  pub block-right : (a b : ℕ) → a ≤ 65535 → b ≤ 65535 → RightBlock (record { base = x; lower = a; upper = b })
-  block-right a b p q = record { base = subst (λ (n : ℕ). n < 2 ^ codes) (sym base) (words-bound words); lower = p; upper = q }
+pub block-is : (w : Width) {d : ℕ} → d ≡ baseDigits w → (t : List ℕ) (x a b : ℕ) → d < length t → getD t d 0 ≡ 32
+    → take d t ≡ digits 16 d x → drop (d + 1) t ≡ twoNumbers a b → t ≡ blockLine w (record { base = x; lower = a; upper = b })
+unfolding blockLine
+block-is w {d} many t x a b long blank base two =
+    split-at t d 0 long ∙ (λ m. base m ++ blank m ∷ (ap (λ (n : ℕ). drop n t) (sym (add-one d)) ∙ two) m)
+    ∙ ap (λ (k : ℕ). digits 16 k x ++ 32 ∷ twoNumbers a b) many

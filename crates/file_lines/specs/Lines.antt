@@ -1,13 +1,16 @@
 -- What the inner functions of reading a file answer.
 use mathlib.Core.Path.{_≡_}
 use mathlib.Core.List.{List, _∷_, _++_}
-use Prim.Native.Nat.{ℕ, _≤_, _<_}
+use Prim.Native.Nat.{ℕ, _*_, _^_, _≤_, _<_}
 use lib.ListN.{length, getD, take, drop}
-use Rattle.file_numerals.specs.Digits.{decimal}
+use Rattle.file_numerals.specs.Digits.{digits, decimal}
+use Rattle.file_numerals.specs.Read.{wordDigits}
 use Rattle.file_numerals.specs.declared.Number.{Number}
 use Rattle.file_numerals.specs.declared.Number.the-variants.{Is as is, Not as none}
 use Rattle.plain.specs.All.{All}
+use Rattle.sets.specs.Set.{setOf}
 use Rattle.shapes.specs.Lent.{meant}
+use Rattle.file_lines.specs.declared.Width.{Width}
 use Rattle.file_lines.specs.declared.Found.{Found}
 use Rattle.file_lines.specs.declared.Found.the-variants.{At, Nothing}
 use Rattle.file_lines.specs.declared.Two.{Two}
@@ -16,6 +19,8 @@ use Rattle.file_lines.specs.declared.NumberAt.{NumberAt}
 use Rattle.file_lines.specs.declared.NumberAt.the-variants.{Is as number, Not as no-number}
 use Rattle.file_lines.specs.declared.RuleLine.{RuleLine}
 use Rattle.file_lines.specs.declared.RuleLine.the-variants.{Is as rule, Not as no-rule}
+use Rattle.file_lines.specs.declared.BaseSaid.{BaseSaid}
+use Rattle.file_lines.specs.declared.BaseSaid.the-variants.{Is as base, Not as no-base}
 use Rattle.file_lines.specs.declared.BlockLine.{BlockLine}
 use Rattle.file_lines.specs.declared.BlockLine.the-variants.{Is as block, Not as no-block}
 use Rattle.file_lines.specs.Grammar.{Writable, RightBlock, RuleInGrammar, twoNumbers, blockLine, ruleLine, headLine}
@@ -70,6 +75,11 @@ abbrev pub RuleRead : List ℕ → RuleLine → Type 0
 RuleRead t (rule r) = Says RuleInGrammar ruleLine t r
 RuleRead t no-rule = SaysNone RuleInGrammar ruleLine t
 
-abbrev pub BlockRead : List ℕ → BlockLine → Type 0
-BlockRead t (block b) = Says RightBlock blockLine t (meant b)
-BlockRead t no-block = SaysNone RightBlock blockLine t
+-- the digits of n words
+abbrev pub BaseRead : ℕ → List ℕ → BaseSaid → Type 0
+BaseRead n t (base s) = (setOf s < 2 ^ (n * 64)) × (t ≡ digits 16 (n * wordDigits) (setOf s))
+BaseRead n t no-base = (b : ℕ) → t ≡ digits 16 (n * wordDigits) b → ⊥
+
+abbrev pub BlockRead : Width → List ℕ → BlockLine → Type 0
+BlockRead w t (block b) = Says (RightBlock w) (blockLine w) t (meant b)
+BlockRead w t no-block = SaysNone (RightBlock w) (blockLine w) t

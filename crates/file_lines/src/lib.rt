@@ -1,31 +1,32 @@
 // A book file, read line by line.
 use file_numerals::Number;
 use rules::Rule;
+use sets::Set;
 use shapes::Block;
 ghost use mathlib.Core.Path.{_≡_};
-ghost use Prim.Native.Nat.{_≤_};
+ghost use Prim.Native.Nat.{_*_, _≤_};
 ghost use Rattle.plain.specs.Tells.{Tells};
 ghost use lib.ListN.{length, take};
-ghost use Rattle.file_lines.specs.Lines.{FoundIn, HeadRead, NumberRead, TwoRead, RuleRead, BlockRead};
+ghost use Rattle.file_lines.specs.Lines.{FoundIn, HeadRead, NumberRead, TwoRead, RuleRead, BaseRead, BlockRead};
+ghost use Rattle.file_lines.specs.Grammar.{saidWords};
+ghost use Rattle.bases.specs.Base.{baseWords};
+ghost use Rattle.file_numerals.specs.Read.{wordDigits};
 
-// What stands under a heading: block counts of texts, blocks, rules.
+// How much of a base the lines of a section say: under BLOCKS the codes up to 127, under WIDE all.
+pub enum Width {
+    Low,
+    Wide,
+}
+
+// What stands under a heading: block counts of texts, blocks of either width, rules.
 pub enum Heading {
     Texts,
-    Blocks,
+    Blocks(Width),
     Rules,
 }
 
-// A section of a file: its heading, and how many items there may be.
-pub struct Section {
-    pub heading: Heading,
-    pub most: usize,
-}
-
 // The input limit in bytes, and the room that a report wants.
-pub const FILE_LIMIT: usize = 16384;
-
-// How many hex digits a base is.
-pub const BASE_DIGITS: usize = 2 * file_numerals::WORD_DIGITS;
+pub const FILE_LIMIT: usize = 32768;
 
 // Where a byte stands first.
 pub enum Found {
@@ -52,6 +53,12 @@ pub enum RuleLine {
 
 pub enum BlockLine {
     Is(Block),
+    Not,
+}
+
+// A base, as the digits of a line say it.
+pub enum BaseSaid {
+    Is(Set),
     Not,
 }
 
@@ -153,31 +160,54 @@ pub fn read_rule(line: &[u8]) -> RuleLine
     }
 }
 
-// A block's line.
-pub fn read_block(line: &[u8]) -> BlockLine
-    ensures { λ r. ⌜ BlockRead (now (line .entry)) r ⌝ }
+// How many words of a base a line of this width says.
+pub fn words(width: Width) -> usize
+    ensures { λ r. ⌜ r ≡ saidWords width ⌝ }
 {
-    if line.len() <= BASE_DIGITS {
+    match width {
+        Width::Low => 2,
+        Width::Wide => 4,
+    }
+}
+
+// A base of so many words, the last word first.
+fn read_base(part: &[u8], words: usize) -> BaseSaid
+    requires { ⌜ words ≤ baseWords ⌝ }
+    requires { ⌜ length (now part) ≡ words * wordDigits ⌝ }
+    ensures { λ r. ⌜ BaseRead words (now (part .entry)) r ⌝ }
+{
+    let mut base = sets::none();
+    let mut i = 0;
+    while i < words {
+        let from = i * file_numerals::WORD_DIGITS;
+        let to = from + file_numerals::WORD_DIGITS;
+        let Number::Is(w) = file_numerals::read_word(&part[from..to]) else {
+            return BaseSaid::Not;
+        };
+        base = sets::over(base, w);
+        i += 1;
+    }
+    BaseSaid::Is(base)
+}
+
+// A block's line.
+pub fn read_block(width: Width, line: &[u8]) -> BlockLine
+    ensures { λ r. ⌜ BlockRead width (now (line .entry)) r ⌝ }
+{
+    let n = words(width);
+    let end = n * file_numerals::WORD_DIGITS;
+    if line.len() <= end {
         return BlockLine::Not;
     }
-    if line[BASE_DIGITS] != b' ' {
+    if line[end] != b' ' {
         return BlockLine::Not;
     }
-    let half = file_numerals::WORD_DIGITS;
-    let end = BASE_DIGITS;
-    let rest = BASE_DIGITS + 1;
-    match file_numerals::read_word(&line[..half]) {
-        Number::Not => BlockLine::Not,
-        Number::Is(high) => match file_numerals::read_word(&line[half..end]) {
-            Number::Not => BlockLine::Not,
-            Number::Is(low) => match read_two(&line[rest..]) {
-                Two::Not => BlockLine::Not,
-                Two::Is(lower, upper) => BlockLine::Is(Block {
-                    base: sets::two_words(low, high),
-                    lower,
-                    upper,
-                }),
-            },
+    let rest = end + 1;
+    match read_base(&line[..end], n) {
+        BaseSaid::Not => BlockLine::Not,
+        BaseSaid::Is(base) => match read_two(&line[rest..]) {
+            Two::Not => BlockLine::Not,
+            Two::Is(lower, upper) => BlockLine::Is(Block { base, lower, upper }),
         },
     }
 }

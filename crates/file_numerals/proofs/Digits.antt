@@ -5,10 +5,10 @@ use mathlib.Core.Logic.{⊎-elim}
 use mathlib.Core.List.{List, [], _∷_, _++_, append-nil, append-assoc}
 use Prim.Native.Nat.{ℕ, zero, suc, _+_, _-_, _*_, _/_, _%_, _^_, _≤_, _<_}
 use native.Mathlib.Omega.{arith}
-use native.Mathlib.Nat.{div-add-mod', mod-lt, pow-suc, pow-zero, add-zero, add-suc, div-lt-iff-lt-mul}
+use native.Mathlib.Nat.{div-add-mod', mod-lt, pow-suc, pow-succ', pow-zero, add-zero, add-suc, div-one, div-div-eq-div-mul, div-lt-iff-lt-mul}
 use native.Mathlib.Numerals.{add-one}
 use lib.Arith.{digits-div, digits-mod}
-use lib.ListN.{length, getD, take, length-append}
+use lib.ListN.{length, getD, take, length-append, List·getD-append}
 use lib.Seq.{take-at, getD-at}
 use borrow.Author.Tests.{lt-ltb, le-ltb}
 use Rattle.plain.proofs.Plain.{lt-or-le}
@@ -179,6 +179,20 @@ digits-split b j (suc k) n m pos h =
     ap (λ (i : ℕ). digits b i (n * b ^ suc k + m)) (add-suc j k) ∙ ap (λ (x : ℕ). digits b (suc (j + k)) (n * x + m)) (pow-suc b k)
     ∙ ap (digits b (suc (j + k))) parts ∙ digits-more b (j + k) (n * b ^ k + m / b) (m % b) (mod-lt m pos)
     ∙ ap (λ (t : List ℕ). t ++ (glyph (m % b) ∷ [])) (digits-split b j k n (m / b) pos small) ∙ append-assoc (digits b j n) (digits b k (m / b)) (glyph (m % b) ∷ [])
+
+-- digit j, from 0 at the left
+pub digits-at : (b k n j : ℕ) → j < k → getD (digits b k n) j 0 ≡ glyph (n / b ^ (k - 1 - j) % b)
+unfolding digits
+digits-at b zero n j h = absurd (omega arith)
+digits-at b (suc k) n j h = ⊎-elim
+    (λ l. let up : k - 1 - j + 1 ≡ suc k - 1 - j = omega arith in
+    List·getD-append (digits b k (n / b)) (glyph (n % b) ∷ []) 0 j (let e = digits-length b k (n / b) in omega arith) ∙ digits-at b k (n / b) j l
+    ∙ ap (λ (x : ℕ). glyph (x % b)) (div-div-eq-div-mul n b (b ^ (k - 1 - j)) ∙ ap (λ (x : ℕ). n / x) (sym (pow-succ' b (k - 1 - j)) ∙ ap (λ (x : ℕ). b ^ x) (sym (add-one (k - 1 - j)) ∙ up))))
+    (λ l. let last : j ≡ k = omega arith in
+    let none : 0 ≡ suc k - 1 - j = omega arith in
+    getD-at (digits b k (n / b)) (glyph (n % b)) [] 0 j (digits-length b k (n / b) ∙ sym last)
+    ∙ ap (λ (x : ℕ). glyph (x % b)) (sym (div-one n) ∙ ap (λ (x : ℕ). n / x) (sym (pow-zero b) ∙ ap (λ (x : ℕ). b ^ x) none)))
+    (lt-or-le j k)
 
 -- c is a digit below b
 abbrev pub Glyph : ℕ → ℕ → Type 0

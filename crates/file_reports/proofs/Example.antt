@@ -5,6 +5,7 @@ use Prim.Native.Nat.{ℕ}
 use Rattle.file_numerals.specs.Digits.{glyph, digits, decimalBy, decimal}
 use Rattle.shapes.specs.Shape.{Block}
 use Rattle.file_lines.specs.Grammar.{headLine, twoNumbers, blockLine, joined, partLines, linesOf, writing}
+use Rattle.file_lines.specs.declared.Width.the-variants.{Low}
 use Rattle.file_lines.specs.Book.{sheetParts}
 use Rattle.file_reports.specs.Report.{Verdict, headOf, sheetAfter, reportOf}
 use Rattle.file_reports.specs.Report.Verdict.{stable}
@@ -14,7 +15,7 @@ block = record { base = 0x0000000c000000000000000000000000; lower = 2; upper = 2
 
 pub exampleVerdict : Verdict
 unfolding block
-exampleVerdict = stable (record { counts = 1 ∷ 1 ∷ []; blocks = block ∷ block ∷ [] }) 2
+exampleVerdict = stable (record { width = Low; counts = 1 ∷ 1 ∷ []; blocks = block ∷ block ∷ [] }) 2
 
 pub exampleReport : List ℕ
 exampleReport =

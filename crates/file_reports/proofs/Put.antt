@@ -1,27 +1,28 @@
 -- Writes one after another. Assumes nothing.
 use mathlib.Core.Path.{_≡_, refl, sym, ap, _∙_, subst}
 use mathlib.Core.List.{List, [], _∷_, _++_, map, append-assoc, append-nil}
-use Prim.Native.Nat.{ℕ, suc, _+_, _^_, _≤_, _<_}
+use Prim.Native.Nat.{ℕ, suc, _+_, _-_, _*_, _/_, _%_, _^_, _≤_, _<_}
 use native.Mathlib.Omega.{arith}
-use native.Mathlib.Nat.{add-zero, zero-add, add-assoc}
+use native.Mathlib.Nat.{add-zero, zero-add, add-assoc, mod-lt, div-one, div-add-mod'}
 use native.Mathlib.Numerals.{add-one}
 use lib.ListN.{length, getD, take, drop, length-append}
+use lib.Dec.{lit<}
+use lib.Pow.{shr-shr}
 use lib.Seq.{sets, take-suc}
 use Rattle.answers.specs.Told.{Told}
-use Rattle.bases.specs.Base.{baseOf}
 use Rattle.shapes.specs.Shape.{Block, blockCount}
 use Rattle.plain.specs.All.{All}
 use Rattle.shapes.specs.Lent.{shapeOf, blockAt}
 use Rattle.plain.proofs.All.{all-at}
 use Rattle.shapes.proofs.Lent.{shape-at, shape-length}
 use Rattle.file_numerals.specs.Digits.{digits, decimal}
-use Rattle.file_numerals.proofs.Digits.{decimal-few}
+use Rattle.file_numerals.proofs.Digits.{decimal-few, digits-split}
 use Rattle.file_numerals.proofs.Stores.{sets-append, sets-start}
 use Rattle.file_numerals.specs.Read.{wordDigits}
 use Rattle.file_lines.specs.Grammar.{baseDigits, RightBlock, headLine, twoNumbers, blockLine, joined, wordOf, Part, partLines, linesOf, writing}
+use Rattle.file_lines.specs.declared.Width.{Width}
 use Rattle.file_lines.specs.declared.Heading.the-variants.{Texts, Blocks}
 use Rattle.file_lines.specs.Book.{Sheet, sheetParts, fileLimit}
-use Rattle.file_lines.proofs.Read.{two-words}
 use Rattle.file_lines.proofs.Joined.{joined-append, map-more}
 use Rattle.file_reports.specs.Report.{Verdict, Reported, headOf, sheetAfter, reportOf, refusedWord, refusedLine}
 use Rattle.file_reports.specs.Report.Verdict.{refused}
@@ -74,12 +75,38 @@ pub pair-text : (a b : ℕ) → pairEnd a b ≡ (32 ∷ twoNumbers a b) ++ 10 �
 unfolding pairEnd spaced twoNumbers
 pair-text a b = refl
 
--- a block's line: the two words of its base, and the counts
-pub block-text : (l h : ℕ) → l < 2 ^ 64 → h < 2 ^ 64 → {x : ℕ} → x ≡ baseOf (l ∷ (h ∷ [])) → (a b : ℕ)
-    → (digits 16 wordDigits h ++ digits 16 wordDigits l) ++ pairEnd a b ≡ joined (blockLine (record { base = x; lower = a; upper = b }) ∷ [])
+-- a base's digits: no word of it, one word more, all words
+module _ (out : List ℕ) (at x n : ℕ) where
+  pub base-none : Wrote out at (digits 16 ((n - n) * wordDigits) (x / 2 ^ (n * 64))) out at
+  unfolding digits
+  base-none = subst (λ (k : ℕ). Wrote out at (digits 16 (k * wordDigits) (x / 2 ^ (n * 64))) out at) (let z : 0 ≡ n - n = omega arith in z) (put-none out at)
+
+  pub base-more : {mid new : List ℕ} {end r : ℕ} (i : ℕ) {w : ℕ} → 0 < i → i ≤ n → w ≡ x / 2 ^ ((i - 1) * 64) % 2 ^ 64
+      → Wrote out at (digits 16 ((n - i) * wordDigits) (x / 2 ^ (i * 64))) mid end → Wrote mid end (digits 16 wordDigits w) new r
+      → Wrote out at (digits 16 ((n - (i - 1)) * wordDigits) (x / 2 ^ ((i - 1) * 64))) new r
+  base-more {mid} {new} {end} {r} i {w} some few e p q =
+      let y : ℕ = x / 2 ^ ((i - 1) * 64) in
+      let up : i * 64 ≡ (i - 1) * 64 + 64 = omega arith in
+      let long : (n - i) * wordDigits + wordDigits ≡ (n - (i - 1)) * wordDigits = omega arith in
+      let above = ap (λ (k : ℕ). x / 2 ^ k) up ∙ sym (shr-shr x ((i - 1) * 64) 64) in
+      put-as out at _ _ new r
+      ((λ j. digits 16 ((n - i) * wordDigits) (above j) ++ digits 16 wordDigits (e j))
+      ∙ sym (digits-split 16 ((n - i) * wordDigits) wordDigits (y / 2 ^ 64) (y % 2 ^ 64) (lit< tt) (mod-lt y {m = 2 ^ 64} (lit< tt)))
+      ∙ (λ j. digits 16 (long j) (div-add-mod' y (2 ^ 64) j)))
+      (put-then out at _ mid end _ new r p q)
+
+  pub base-all : {new : List ℕ} {r i : ℕ} → i ≡ 0 → Wrote out at (digits 16 ((n - i) * wordDigits) (x / 2 ^ (i * 64))) new r
+      → Wrote out at (digits 16 (n * wordDigits) x) new r
+  base-all {new} {r} {i} e =
+      let long : (n - i) * wordDigits ≡ n * wordDigits = omega arith in
+      let whole = ap (λ (k : ℕ). x / 2 ^ (k * 64)) e ∙ div-one x in
+      put-as out at _ _ new r (λ j. digits 16 (long j) (whole j))
+
+-- a block's line: so many digits of its base, and the counts
+pub block-text : (w : Width) {d : ℕ} → d ≡ baseDigits w → (x a b : ℕ) → digits 16 d x ++ pairEnd a b ≡ joined (blockLine w (record { base = x; lower = a; upper = b }) ∷ [])
 unfolding blockLine joined
-block-text l h low high {x} base a b =
-    (λ i. two-words l h low high base i ++ pair-text a b i) ∙ sym (append-assoc (digits 16 baseDigits x) (32 ∷ twoNumbers a b) (10 ∷ []))
+block-text w e x a b =
+    (λ i. digits 16 (e i) x ++ pair-text a b i) ∙ sym (append-assoc (digits 16 (baseDigits w) x) (32 ∷ twoNumbers a b) (10 ∷ []))
 
 -- one line more
 pub lines-more : {X : Type 0} (text : X → List ℕ) (xs : List X) (i : ℕ) (d : X) → i < length xs
@@ -90,14 +117,14 @@ lines-more text xs i d h =
 
 -- ---- blocks
 
-pub right-at : (xs : List ℕ) (i : ℕ) → i < blockCount xs → All RightBlock (shapeOf xs) → RightBlock (blockAt xs i)
-right-at xs i h g = subst RightBlock (shape-at xs i (blockAt xs i) h) (all-at (blockAt xs i) g i (let e = shape-length xs in omega arith))
+pub right-at : {w : Width} (xs : List ℕ) (i : ℕ) → i < blockCount xs → All (RightBlock w) (shapeOf xs) → RightBlock w (blockAt xs i)
+right-at {w} xs i h g = subst (RightBlock w) (shape-at xs i (blockAt xs i) h) (all-at (blockAt xs i) g i (let e = shape-length xs in omega arith))
 
-pub block-more : (xs : List ℕ) (i : ℕ) (b : Block) → i < blockCount xs → b ≡ blockAt xs i
-    → joined (map blockLine (take i (shapeOf xs))) ++ joined (blockLine b ∷ []) ≡ joined (map blockLine (take (i + 1) (shapeOf xs)))
-block-more xs i b h e =
-    ap (λ (c : Block). joined (map blockLine (take i (shapeOf xs))) ++ joined (blockLine c ∷ [])) (e ∙ sym (shape-at xs i b h))
-    ∙ lines-more blockLine (shapeOf xs) i b (let l = shape-length xs in omega arith)
+pub block-more : (w : Width) (xs : List ℕ) (i : ℕ) (b : Block) → i < blockCount xs → b ≡ blockAt xs i
+    → joined (map (blockLine w) (take i (shapeOf xs))) ++ joined (blockLine w b ∷ []) ≡ joined (map (blockLine w) (take (i + 1) (shapeOf xs)))
+block-more w xs i b h e =
+    ap (λ (c : Block). joined (map (blockLine w) (take i (shapeOf xs))) ++ joined (blockLine w c ∷ [])) (e ∙ sym (shape-at xs i b h))
+    ∙ lines-more (blockLine w) (shapeOf xs) i b (let l = shape-length xs in omega arith)
 
 pub pair-five : (a b : ℕ) → a ≤ 65535 → b ≤ 65535 → length (pairEnd a b) ≤ 13
 pair-five a b h g = let l = pair-length a b in let x = spaced-length a in let y = spaced-length b in let p = five a h in let q = five b g in omega arith
@@ -113,20 +140,20 @@ regroup a b c d = simp append-assoc
 -- the four parts of a sheet
 pub sheet-put : (s : Sheet) (t k : ℕ) (out : List ℕ) (at : ℕ) (o₁ o₂ o₃ o₄ : List ℕ) (r₁ r₂ r₃ r₄ : ℕ) → t ≡ length (s .counts) → k ≡ length (s .blocks)
     → Wrote out at (joined (headLine (wordOf Texts) t ∷ [])) o₁ r₁ → Wrote o₁ r₁ (joined (map decimal (s .counts))) o₂ r₂
-    → Wrote o₂ r₂ (joined (headLine (wordOf Blocks) k ∷ [])) o₃ r₃ → Wrote o₃ r₃ (joined (map blockLine (s .blocks))) o₄ r₄ → Wrote out at (writing (sheetParts s)) o₄ r₄
+    → Wrote o₂ r₂ (joined (headLine (wordOf (Blocks (s .width))) k ∷ [])) o₃ r₃ → Wrote o₃ r₃ (joined (map (blockLine (s .width)) (s .blocks))) o₄ r₄ → Wrote out at (writing (sheetParts s)) o₄ r₄
 unfolding writing linesOf partLines sheetParts
 sheet-put s t k out at o₁ o₂ o₃ o₄ r₁ r₂ r₃ r₄ et ek p₁ p₂ p₃ p₄ =
     let x = headLine (wordOf Texts) t ∷ [] in
     let c = map decimal (s .counts) in
-    let y = headLine (wordOf Blocks) k ∷ [] in
-    let b = map blockLine (s .blocks) in
+    let y = headLine (wordOf (Blocks (s .width))) k ∷ [] in
+    let b = map (blockLine (s .width)) (s .blocks) in
     let q₂ = put-then out at (joined x) o₁ r₁ (joined c) o₂ r₂ p₁ p₂ in
     let q₃ = put-then out at (joined x ++ joined c) o₂ r₂ (joined y) o₃ r₃ q₂ p₃ in
     let q₄ = put-then out at ((joined x ++ joined c) ++ joined y) o₃ r₃ (joined b) o₄ r₄ q₃ p₄ in
     put-as out at _ _ o₄ r₄
     (regroup (joined x) (joined c) (joined y) (joined b)
     ∙ sym (joined-append x (c ++ (y ++ b)) ∙ ap (λ (u : List ℕ). joined x ++ u) (joined-append c (y ++ b) ∙ ap (λ (u : List ℕ). joined c ++ u) (joined-append y b)))
-    ∙ (λ i. joined (headLine (wordOf Texts) (et i) ∷ (c ++ (headLine (wordOf Blocks) (ek i) ∷ sym (append-nil b) i)))))
+    ∙ (λ i. joined (headLine (wordOf Texts) (et i) ∷ (c ++ (headLine (wordOf (Blocks (s .width))) (ek i) ∷ sym (append-nil b) i)))))
     q₄
 
 -- ---- whole reports

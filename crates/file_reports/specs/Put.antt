@@ -6,6 +6,7 @@ use lib.ListN.{length}
 use lib.Seq.{sets}
 use Rattle.file_numerals.specs.Digits.{decimal}
 use Rattle.file_lines.specs.Grammar.{baseDigits, wordOf}
+use Rattle.file_lines.specs.declared.Width.the-variants.{Low, Wide}
 use Rattle.file_lines.specs.declared.Heading.the-variants.{Texts, Blocks}
 
 -- t is stored from place `at` on, up to place r
@@ -26,10 +27,14 @@ pairEnd a b = (spaced a ++ spaced b) ++ 10 ∷ []
 abbrev pub numberRoom : ℕ
 numberRoom = 21
 
--- A block's digits, two numbers of at most 5 digits, each after a blank, and a newline.
+-- The words over blocks, of which `BLOCKS ` is the longer. A block's digits, of which WIDE has the more, two numbers of
+-- at most 5 digits, each after a blank, and a newline.
+abbrev pub headingRoom : ℕ
+headingRoom = length (wordOf (Blocks Low)) + numberRoom
+
 abbrev pub blockRoom : ℕ
-blockRoom = baseDigits + 13
+blockRoom = baseDigits Wide + 13
 
 -- A sheet of t texts and b blocks.
 abbrev pub sheetRoom : ℕ → ℕ → ℕ
-sheetRoom t b = length (wordOf Texts) + numberRoom + t * numberRoom + (length (wordOf Blocks) + numberRoom + b * blockRoom)
+sheetRoom t b = length (wordOf Texts) + numberRoom + t * numberRoom + (headingRoom + b * blockRoom)

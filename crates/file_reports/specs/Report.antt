@@ -1,4 +1,4 @@
--- Document 01, "A book and its run": the report that the program prints.
+-- Document 01, "A book and its run", and document 02, order 10: the report that the program prints.
 use mathlib.Core.Path.{_≡_}
 use mathlib.Core.List.{List, [], _∷_, _++_}
 use Prim.Native.Nat.{ℕ, _≤_}
@@ -34,7 +34,7 @@ headOf (stable s n) = headLine stableWord n ∷ []
 headOf (none n) = headLine noneWord n ∷ []
 headOf (refused t) = refusedLine t ∷ []
 
--- After STABLE the sections TEXTS and BLOCKS, as a file has them; else the head stands alone.
+-- After STABLE the sections TEXTS and BLOCKS or WIDE, as a file has them; else the head stands alone.
 unfoldable pub sheetAfter : Verdict → List Part
 sheetAfter (stable s n) = sheetParts s
 sheetAfter (none n) = []
@@ -43,7 +43,7 @@ sheetAfter (refused t) = []
 unfoldable pub reportOf : Verdict → List ℕ
 reportOf v = joined (headOf v) ++ writing (sheetAfter v)
 
--- The report stands at the start of the output, of length n and at most 16,384 bytes; the rest of the output stays.
+-- The report stands at the start of the output, of length n and at most 32,768 bytes; the rest of the output stays.
 pub record Reported (v : Verdict) (out out′ : List ℕ) (n : ℕ) : Type 0 where
   pub count : n ≡ length (reportOf v)
   pub short : n ≤ fileLimit

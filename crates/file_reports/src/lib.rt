@@ -1,5 +1,7 @@
 // The report of a book: STABLE with the final shapes, NONE, or REFUSED.
 use answers::Refusal;
+use file_lines::Width;
+use sets::Set;
 use shapes::Block;
 ghost use mathlib.Core.List.{[], _∷_, map};
 ghost use Prim.Native.Nat.{_+_, _*_, _≤_};
@@ -7,14 +9,18 @@ ghost use lib.ListN.{length};
 ghost use Rattle.answers.specs.Told.{told};
 ghost use Rattle.plain.specs.All.{All};
 ghost use Rattle.shapes.specs.Lent.{shapeOf, meant};
-ghost use Rattle.file_numerals.specs.Digits.{decimal};
-ghost use Rattle.file_lines.specs.Grammar.{RightBlock, headLine, blockLine, joined, writing};
+ghost use Rattle.bases.specs.Base.{baseWords};
+ghost use Rattle.sets.specs.Set.{setOf};
+ghost use Rattle.file_numerals.specs.Digits.{digits, decimal};
+ghost use Rattle.file_numerals.specs.Read.{wordDigits};
+ghost use Rattle.file_lines.specs.declared.Heading.the-variants.{Blocks as blocks-heading};
+ghost use Rattle.file_lines.specs.Grammar.{RightBlock, headLine, wordOf, blockLine, joined, writing};
 ghost use Rattle.file_lines.specs.Book.{sheetOf, sheetParts, fileLimit};
 ghost use Rattle.shapes.specs.Shape.{blockCount};
 ghost use Rattle.rules.specs.Limits.{mostTexts, bookBlocks};
 ghost use Rattle.file_reports.specs.Report.{Reported};
 ghost use Rattle.file_reports.specs.Report.Verdict.{stable, none, refused};
-ghost use Rattle.file_reports.specs.Put.{Wrote, spaced, pairEnd, numberRoom, blockRoom, sheetRoom};
+ghost use Rattle.file_reports.specs.Put.{Wrote, spaced, pairEnd, numberRoom, headingRoom, blockRoom, sheetRoom};
 
 // A line of a word and a number.
 fn put_head(word: &[u8], n: u64, out: &mut [u8], at: usize) -> usize
@@ -54,17 +60,32 @@ fn put_pair(a: u64, b: u64, out: &mut [u8], at: usize) -> usize
     file_numerals::put_bytes(b"\n", out, second)
 }
 
+// So many words of a base, the last of them first.
+fn put_base(base: Set, words: usize, out: &mut [u8], at: usize) -> usize
+    requires { ⌜ words ≤ baseWords ⌝ }
+    requires { ⌜ at + words * wordDigits ≤ length (now out) ⌝ }
+    ensures { λ r. ⌜ Wrote (now (out .entry)) at (digits 16 (words * wordDigits) (setOf base)) (now (out .exit)) r ⌝ }
+{
+    let mut end = at;
+    let mut i = words;
+    while 0 < i {
+        i -= 1;
+        let word = sets::word(base, i);
+        file_numerals::put_digits(word, 16, file_numerals::WORD_DIGITS, out, end);
+        end += file_numerals::WORD_DIGITS;
+    }
+    end
+}
+
 // A block's line.
-fn put_block(b: Block, out: &mut [u8], at: usize) -> usize
+fn put_block(width: Width, b: Block, out: &mut [u8], at: usize) -> usize
     requires { ⌜ at + blockRoom ≤ length (now out) ⌝ }
-    requires { ⌜ RightBlock (meant b) ⌝ }
-    ensures { λ r. ⌜ Wrote (now (out .entry)) at (joined (blockLine (meant b) ∷ [])) (now (out .exit)) r ⌝ }
+    requires { ⌜ RightBlock width (meant b) ⌝ }
+    ensures { λ r. ⌜ Wrote (now (out .entry)) at (joined (blockLine width (meant b) ∷ [])) (now (out .exit)) r ⌝ }
     ensures { λ r. ⌜ r ≤ at + blockRoom ⌝ }
 {
-    let half = file_numerals::WORD_DIGITS;
-    file_numerals::put_digits(b.base.b, 16, half, out, at);
-    file_numerals::put_digits(b.base.a, 16, half, out, at + half);
-    put_pair(b.lower, b.upper, out, at + file_lines::BASE_DIGITS)
+    let end = put_base(b.base, file_lines::words(width), out, at);
+    put_pair(b.lower, b.upper, out, end)
 }
 
 fn put_counts(counts: &[u64], out: &mut [u8], at: usize) -> usize
@@ -82,10 +103,10 @@ fn put_counts(counts: &[u64], out: &mut [u8], at: usize) -> usize
     end
 }
 
-fn put_blocks(blocks: &[u64], out: &mut [u8], at: usize) -> usize
+fn put_blocks(width: Width, blocks: &[u64], out: &mut [u8], at: usize) -> usize
     requires { ⌜ at + blockCount (now blocks) * blockRoom ≤ length (now out) ⌝ }
-    requires { ⌜ All RightBlock (shapeOf (now blocks)) ⌝ }
-    ensures { λ r. ⌜ Wrote (now (out .entry)) at (joined (map blockLine (shapeOf (now (blocks .entry))))) (now (out .exit)) r ⌝ }
+    requires { ⌜ All (RightBlock width) (shapeOf (now blocks)) ⌝ }
+    ensures { λ r. ⌜ Wrote (now (out .entry)) at (joined (map (blockLine width) (shapeOf (now (blocks .entry))))) (now (out .exit)) r ⌝ }
     ensures { λ r. ⌜ r ≤ at + blockCount (now (blocks .entry)) * blockRoom ⌝ }
 {
     let n = blocks.len() / shapes::SIZE;
@@ -93,35 +114,53 @@ fn put_blocks(blocks: &[u64], out: &mut [u8], at: usize) -> usize
     let mut i = 0;
     while i < n {
         let b = shapes::block_at(blocks, i);
-        end = put_block(b, out, end);
+        end = put_block(width, b, out, end);
         i += 1;
     }
     end
 }
 
+// The heading of the blocks, which is the one that came in.
+fn put_heading(width: Width, n: u64, out: &mut [u8], at: usize) -> usize
+    requires { ⌜ at + headingRoom ≤ length (now out) ⌝ }
+    ensures { λ r. ⌜ Wrote (now (out .entry)) at (joined (headLine (wordOf (blocks-heading width)) n ∷ [])) (now (out .exit)) r ⌝ }
+    ensures { λ r. ⌜ r ≤ at + headingRoom ⌝ }
+{
+    match width {
+        Width::Low => put_head(b"BLOCKS ", n, out, at),
+        Width::Wide => put_head(b"WIDE ", n, out, at),
+    }
+}
+
 // A sheet: the texts' block counts and the blocks, as a file has them.
-fn put_sheet(counts: &[u64], blocks: &[u64], out: &mut [u8], at: usize) -> usize
+fn put_sheet(width: Width, counts: &[u64], blocks: &[u64], out: &mut [u8], at: usize) -> usize
     requires { ⌜ at + sheetRoom (length (now counts)) (blockCount (now blocks)) ≤ length (now out) ⌝ }
-    requires { ⌜ All RightBlock (shapeOf (now blocks)) ⌝ }
-    ensures { λ r. ⌜ Wrote (now (out .entry)) at (writing (sheetParts (sheetOf (now (counts .entry)) (now (blocks .entry))))) (now (out .exit)) r ⌝ }
+    requires { ⌜ All (RightBlock width) (shapeOf (now blocks)) ⌝ }
+    ensures { λ r. ⌜ Wrote (now (out .entry)) at (writing (sheetParts (sheetOf width (now (counts .entry)) (now (blocks .entry))))) (now (out .exit)) r ⌝ }
     ensures { λ r. ⌜ r ≤ at + sheetRoom (length (now (counts .entry))) (blockCount (now (blocks .entry))) ⌝ }
 {
     let a = put_head(b"TEXTS ", counts.len() as u64, out, at);
     let b = put_counts(counts, out, a);
-    let c = put_head(b"BLOCKS ", (blocks.len() / shapes::SIZE) as u64, out, b);
-    put_blocks(blocks, out, c)
+    let c = put_heading(width, (blocks.len() / shapes::SIZE) as u64, out, b);
+    put_blocks(width, blocks, out, c)
 }
 
 // STABLE, the applications made, and the sheet of the final shapes.
-pub fn write_stable(counts: &[u64], blocks: &[u64], count: u64, out: &mut [u8]) -> usize
+pub fn write_stable(
+    width: Width,
+    counts: &[u64],
+    blocks: &[u64],
+    count: u64,
+    out: &mut [u8],
+) -> usize
     requires { ⌜ fileLimit ≤ length (now out) ⌝ }
     requires { ⌜ length (now counts) ≤ mostTexts ⌝ }
     requires { ⌜ blockCount (now blocks) ≤ bookBlocks ⌝ }
-    requires { ⌜ All RightBlock (shapeOf (now blocks)) ⌝ }
-    ensures { λ r. ⌜ Reported (stable (sheetOf (now (counts .entry)) (now (blocks .entry))) count) (now (out .entry)) (now (out .exit)) r ⌝ }
+    requires { ⌜ All (RightBlock width) (shapeOf (now blocks)) ⌝ }
+    ensures { λ r. ⌜ Reported (stable (sheetOf width (now (counts .entry)) (now (blocks .entry))) count) (now (out .entry)) (now (out .exit)) r ⌝ }
 {
     let head = put_head(b"STABLE ", count, out, 0);
-    put_sheet(counts, blocks, out, head)
+    put_sheet(width, counts, blocks, out, head)
 }
 
 // NONE and the applications made.

@@ -51,15 +51,18 @@ lent-as-own file out work b c w x y h p q = answer-one file 63001 out b c x y (a
 number-of : {t : Told} {n x p : ℕ} → t ≡ tell n x p → t .number ≡ n
 number-of e = ap (λ (u : Told). u .number) e
 
-NotFive : Told → Type 0
-NotFive t = t .number ≡ 5 → ⊥
+NotTold : ℕ → Told → Type 0
+NotTold n t = t .number ≡ n → ⊥
 
-book-five : {counts blocks rules : List ℕ} {work : ℕ} {t : Told} → BookRefused counts blocks rules work t → t .number ≡ 5 → ⊥
-unfolding NotFive
-book-five (here p) f = let h = number-of (p .tells) in omega arith
-book-five (later c (here (k, p))) f = blocks-tells NotFive (λ i. ((λ e. omega (arith, e)), (λ e. omega (arith, e)), (λ e. omega (arith, e)))) (λ e. omega (arith, e)) (p .refused) f
-book-five (later c (later s (here (i, p)))) f = rule-tells NotFive (λ e. omega (arith, e)) (λ e. omega (arith, e)) (p .refused) f
-book-five (later c (later s (later r (here p)))) f = let h = number-of (p .tells) in omega arith
+-- no refusal of a book has the number 5, 8 or 9
+pub book-other : {counts blocks rules : List ℕ} {work : ℕ} {t : Told} (n : ℕ) → 4 < n → (n ≡ 6 → ⊥) → (n ≡ 7 → ⊥) → n < 10
+    → BookRefused counts blocks rules work t → t .number ≡ n → ⊥
+unfolding NotTold
+book-other n low six seven high (here p) f = let h = number-of (p .tells) in omega arith
+book-other n low six seven high (later c (here (k, p))) f =
+    blocks-tells (NotTold n) (λ i. ((λ e. omega (arith, e)), (λ e. omega (arith, e)), (λ e. omega (arith, e)))) (λ e. omega (arith, e)) (p .refused) f
+book-other n low six seven high (later c (later s (here (i, p)))) f = rule-tells (NotTold n) (λ e. omega (arith, e)) (λ e. omega (arith, e)) (p .refused) f
+book-other n low six seven high (later c (later s (later r (here p)))) f = let h = number-of (p .tells) in omega arith
 
 file-five : {file : List ℕ} {t : Told} → FileRefused file t → t .number ≡ 5 → ⊥
 file-five (here p) f = let h = number-of (p .tells) in omega arith
@@ -69,7 +72,7 @@ file-five (later s (here p)) f = let h = number-of (p .2) in omega arith
 pub five-last : {file : List ℕ} {work room : ℕ} {t : Told} → RunRefused file work room t → t .number ≡ 5
     → (b : Book) × FileAccepted file b × BookAccepted (b .sheet .counts) (wordsOf (b .sheet .blocks)) (numbersOfAll (b .rules)) work × (room < fileLimit)
 five-last (here p) f = absurd (file-five p f)
-five-last (later _ (here (its-book a (here p)))) f = absurd (book-five p f)
+five-last (later _ (here (its-book a (here p)))) f = absurd (book-other 5 (omega arith) (λ (e : _≡_ {A = ℕ} 5 6). omega arith) (λ (e : _≡_ {A = ℕ} 5 7). omega arith) (omega arith) p f)
 five-last (later _ (here (its-book {b = b} a (later d (here p))))) f = (b, a, d, omega arith)
 
 -- ---- too little work

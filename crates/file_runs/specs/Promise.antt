@@ -10,6 +10,7 @@ use Rattle.answers.specs.declared.Written.the-variants.{Text, Refused}
 use Rattle.shapes.specs.Lent.{wordsOf}
 use Rattle.pairs.specs.Narrow.{Cleared}
 use Rattle.books.specs.Refused.{BookAccepted, ofBook}
+use Rattle.file_lines.specs.declared.Width.{Width}
 use Rattle.file_lines.specs.Book.{Book, fileLimit}
 use Rattle.files.specs.Departs.{FileRefused, FileAccepted}
 use Rattle.file_reports.specs.Report.{Verdict, Reported}
@@ -23,7 +24,7 @@ pub record Report (Due : Verdict → Type 0) (out out′ : List ℕ) (n : ℕ) :
   pub reported : Reported verdict out out′ n
 
 -- The refusals of running a book to its report, with a work buffer of `work` bytes: the book's, 4 among them; then 5,
--- for an output under 16,384 bytes.
+-- for an output under 32,768 bytes.
 abbrev pub reportTurns : List ℕ → List ℕ → List ℕ → ℕ → ℕ → List Turn
 reportTurns counts blocks rules work room = ofBook counts blocks rules work ∷ need (fileLimit ≤ room) (tell 5 0 0) ∷ []
 
@@ -31,16 +32,16 @@ abbrev pub ReportRefused : List ℕ → List ℕ → List ℕ → ℕ → ℕ �
 ReportRefused counts blocks rules work room = FirstDue (reportTurns counts blocks rules work room)
 
 -- Otherwise the book is run, and the report of how its run ends is written.
-pub record ReportWritten (counts blocks rules : List ℕ) (work : ℕ) (out out′ : List ℕ) (n : ℕ) : Type 0 where
+pub record ReportWritten (w : Width) (counts blocks rules : List ℕ) (work : ℕ) (out out′ : List ℕ) (n : ℕ) : Type 0 where
   pub accepted : BookAccepted counts blocks rules work
   pub room : fileLimit ≤ length out
-  pub report : Report (BookEnds counts blocks rules) out out′ n
+  pub report : Report (BookEnds w counts blocks rules) out out′ n
 
 -- What is answered, and what is left in the output: a refusal carries number, text and place, and leaves the output as
 -- on entry.
-abbrev pub BookAnswer : List ℕ → List ℕ → List ℕ → ℕ → List ℕ → List ℕ → Written → Type 0
-BookAnswer counts blocks rules work out out′ (Text n) = ReportWritten counts blocks rules work out out′ n
-BookAnswer counts blocks rules work out out′ (Refused r) = ReportRefused counts blocks rules work (length out) (told r) × (out′ ≡ out)
+abbrev pub BookAnswer : Width → List ℕ → List ℕ → List ℕ → ℕ → List ℕ → List ℕ → Written → Type 0
+BookAnswer w counts blocks rules work out out′ (Text n) = ReportWritten w counts blocks rules work out out′ n
+BookAnswer w counts blocks rules work out out′ (Refused r) = ReportRefused counts blocks rules work (length out) (told r) × (out′ ≡ out)
 
 -- P holds of the book that the file is the writing of.
 pub data ItsBook (file : List ℕ) (P : Book → Type 0) : Type 0 where
@@ -70,7 +71,7 @@ RunRefused file work room = FirstDue (runTurns file work room)
 pub record RunWritten (file : List ℕ) (work : ℕ) (out out′ : List ℕ) (n : ℕ) : Type 0 where
   pub book : Book
   pub accepted : FileAccepted file book
-  pub written : ReportWritten (book .sheet .counts) (wordsOf (book .sheet .blocks)) (numbersOfAll (book .rules)) work out out′ n
+  pub written : ReportWritten (book .sheet .width) (book .sheet .counts) (wordsOf (book .sheet .blocks)) (numbersOfAll (book .rules)) work out out′ n
 
 -- The same of a file.
 abbrev pub FileAnswer : List ℕ → ℕ → List ℕ → List ℕ → Written → Type 0

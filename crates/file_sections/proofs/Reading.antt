@@ -1,6 +1,7 @@
 -- Lines one after another, and a section from its count and its lines. Assumes nothing.
 use mathlib.Core.Path.{_≡_, refl, sym, ap, _∙_, subst}
 use mathlib.Core.List.{List, [], _∷_, _++_, map, append-assoc}
+use mathlib.Core.Logic.{inl, ⊎-elim}
 use Prim.Native.Nat.{ℕ, _+_, _*_, _≤_, _<_}
 use native.Mathlib.Omega.{arith}
 use lib.ListN.{length, drop, length-append, length-drop, length-map}
@@ -11,14 +12,14 @@ use Rattle.plain.specs.Items.{joinItems}
 use Rattle.plain.proofs.All.{all-append}
 use Rattle.plain.proofs.Items.{join-length, join-append}
 use Rattle.file_lines.specs.declared.Heading.{Heading}
-use Rattle.file_lines.specs.declared.Section.{Section}
-use Rattle.file_lines.specs.Grammar.{headLine, joined, wordOf, Item, RightItem, lineOf, sizeOf, numbersOf, partLines}
+use Rattle.file_lines.specs.Grammar.{headLine, joined, wordOf, Item, RightItem, lineOf, sizeOf, numbersOf, partLines, Section, Heads, InSection}
+use Rattle.file_lines.specs.Book.{part, section}
 use Rattle.file_lines.specs.Lines.{Opens, OpensNone}
 use Rattle.file_lines.proofs.Joined.{joined-append, map-more}
 use Rattle.files.specs.Departs.{Departs}
 use Rattle.files.proofs.Items.{item-size, item-some}
-use Rattle.files.proofs.Departs.{item-departs}
-use Rattle.file_sections.specs.Parts.{AtFront, itemsNumbers, LineTaken, LinesAre, LinesStop, SectionIs}
+use Rattle.files.proofs.Departs.{head-departs, item-departs}
+use Rattle.file_sections.specs.Parts.{AtFront, itemsNumbers, LineTaken, LinesAre, LinesStop, SectionIs, HeadedBy}
 use Rattle.file_sections.proofs.Stored.{front-none, front-item}
 
 -- ---- the numbers of some items
@@ -74,20 +75,39 @@ lines-stop h bytes out₀ out i m p s = record { items = p .items; count = p .co
 
 -- ---- a section
 
-module _ (s : Section) (bytes : List ℕ) (n m : ℕ) (head : Opens 10 (λ (k : ℕ). k ≤ s .most) (headLine (wordOf (s .heading))) bytes n m) where
-  pub section-is : (out out′ : List ℕ) (k : ℕ) → LinesAre (s .heading) (drop m bytes) out out′ n k → SectionIs s bytes out out′ n (m + k)
+module _ (h : Heading) (most : ℕ) (bytes : List ℕ) (n m : ℕ) (head : Opens 10 (λ (k : ℕ). k ≤ most) (headLine (wordOf h)) bytes n m) where
+  pub section-is : (out out′ : List ℕ) (k : ℕ) → LinesAre h (drop m bytes) out out′ n k → SectionIs h most bytes out out′ n (m + k)
   unfolding joined partLines
   section-is out out′ k l = record {
     items = l .items;
     count = l .count;
-    fits = record { heading = refl; few = let f = head .right in let c = l .count in omega arith; right = l .right };
+    few = head .right;
+    right = l .right;
     within = let a = head .within in let b = l .within in let e = length-drop m bytes in omega arith;
-    split = head .split ∙ ap (λ (c : ℕ). headLine (wordOf (s .heading)) c ++ 10 ∷ drop m bytes) (sym (l .count))
-        ∙ ap (λ (t : List ℕ). headLine (wordOf (s .heading)) (length (l .items)) ++ 10 ∷ t) (l .split ∙ ap (λ (t : List ℕ). joined (map (lineOf (s .heading)) (l .items)) ++ t) (drop-drop k m bytes))
-        ∙ sym (append-assoc (headLine (wordOf (s .heading)) (length (l .items))) (10 ∷ joined (map (lineOf (s .heading)) (l .items))) (drop (m + k) bytes));
+    split = head .split ∙ ap (λ (c : ℕ). headLine (wordOf h) c ++ 10 ∷ drop m bytes) (sym (l .count))
+        ∙ ap (λ (t : List ℕ). headLine (wordOf h) (length (l .items)) ++ 10 ∷ t) (l .split ∙ ap (λ (t : List ℕ). joined (map (lineOf h) (l .items)) ++ t) (drop-drop k m bytes))
+        ∙ sym (append-assoc (headLine (wordOf h) (length (l .items))) (10 ∷ joined (map (lineOf h) (l .items))) (drop (m + k) bytes));
     stored = l .stored;
   }
 
-  pub section-stops : (i : ℕ) → LinesStop (s .heading) (drop m bytes) i → i < n → (G : List Section) → Departs (s ∷ G) bytes (i + 2)
-  section-stops i l few G = subst (λ (j : ℕ). Departs (s ∷ G) bytes (j + 2)) (l .count)
-      (item-departs s G (s .heading) refl bytes n m head (l .items) (l .rest) (let c = l .count in omega arith) (l .right) (l .split) (l .stop))
+  pub section-stops : (i : ℕ) → LinesStop h (drop m bytes) i → i < n → (s : Section) (G : List Section) → s .most ≡ most → HeadedBy s h bytes → Departs (s ∷ G) bytes (i + 2)
+  section-stops i l few s G e d = subst (λ (j : ℕ). Departs (s ∷ G) bytes (j + 2)) (l .count)
+      (item-departs s G h (d .heads) bytes n m within (l .items) (l .rest) (let c = l .count in omega arith) (l .right) (l .split) (l .stop))
+    where
+      within : Opens 10 (λ (k : ℕ). k ≤ s .most) (headLine (wordOf h)) bytes n m
+      within = record { right = let f = head .right in omega arith; within = head .within; split = head .split }
+
+-- the count's line departs
+pub section-unheaded : (h : Heading) (most : ℕ) (bytes : List ℕ) → OpensNone 10 (λ (k : ℕ). k ≤ most) (headLine (wordOf h)) bytes
+    → (s : Section) (G : List Section) → s .most ≡ most → HeadedBy s h bytes → Departs (s ∷ G) bytes 1
+section-unheaded h most bytes unread s G e d = head-departs s G bytes
+    (λ k heads n after few split. unread n after (omega arith) (split ∙ ap (λ (j : Heading). headLine (wordOf j) n ++ 10 ∷ after) (d .only k heads n after split)))
+
+-- a section as a part of a file
+pub section-fits : {h : Heading} {most : ℕ} {bytes out out′ : List ℕ} {n m : ℕ} (s : Section) → s .most ≡ most → Heads s h → (p : SectionIs h most bytes out out′ n m)
+    → InSection s (part h (p .items))
+section-fits s e heads p = record { heading = heads; few = let f = p .few in let c = p .count in omega arith; right = p .right }
+
+-- a section of one heading
+pub headed : (h : Heading) (most : ℕ) (bytes : List ℕ) → HeadedBy (section h most) h bytes
+headed h most bytes = record { heads = inl refl; only = λ k heads n after split. ⊎-elim (λ e. e) (λ e. e) heads }

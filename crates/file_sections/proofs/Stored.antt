@@ -3,7 +3,7 @@ use mathlib.Core.Path.{_≡_, refl, sym, ap, _∙_, subst}
 use mathlib.Core.Logic.{⊎-elim}
 use mathlib.Core.List.{List, [], _∷_, _++_}
 use Prim.Native.Nat.{ℕ, zero, suc, _+_, _*_, _/_, _%_, _^_, _≤_, _<_}
-use native.Mathlib.Nat.{div-add-mod', mod-lt, add-zero, add-suc, suc-add, mul-one}
+use native.Mathlib.Nat.{div-add-mod', mod-lt, mul-one}
 use native.Mathlib.Omega.{arith}
 use lib.ListN.{length, getD, take, drop, length-append}
 use lib.Seq.{sets, sets-eq, ext-getD, take-at, drop-at, drop-drop}
@@ -11,7 +11,7 @@ use Rattle.plain.proofs.Plain.{eq-or-ne}
 use Rattle.plain.specs.All.{All}
 use Rattle.plain.specs.All.All.{none, more}
 use Rattle.plain.specs.Items.{numbersAt, PutItem}
-use Rattle.plain.proofs.Items.{numbers-length, put-item}
+use Rattle.plain.proofs.Items.{numbers-length, numbers-get, put-item}
 use Rattle.bases.specs.Base.{Word}
 use Rattle.shapes.specs.Shape.{Block, blockSize}
 use Rattle.shapes.specs.Lent.{Put, blockNumbers}
@@ -37,11 +37,6 @@ put-block {i = i} {w′ = w′} p fits = record {
 }
 
 -- what an item set comes to is determined
-numbers-get : (k : ℕ) (xs : List ℕ) (p j : ℕ) → j < k → getD (numbersAt k xs p) j 0 ≡ getD xs (p + j) 0
-numbers-get zero xs p j h = absurd (omega arith)
-numbers-get (suc k) xs p zero h = ap (λ (q : ℕ). getD xs q 0) (sym (add-zero p))
-numbers-get (suc k) xs p (suc j) h = numbers-get k xs (suc p) j (omega arith) ∙ ap (λ (q : ℕ). getD xs q 0) (suc-add p j ∙ sym (add-suc p j))
-
 put-one : (k : ℕ) {w : List ℕ} {i : ℕ} {x u v : List ℕ} → 0 < k → PutItem k w i x u → PutItem k w i x v → u ≡ v
 put-one k {w} {i} {x} {u} {v} pos p q = ext-getD 0 u v (p .long ∙ sym (q .long)) (λ m h. ⊎-elim (same m) (λ n. p .kept m n ∙ sym (q .kept m n)) (eq-or-ne (m / k) i))
   where

@@ -8,9 +8,7 @@ use lib.ListN.{length, drop}
 use Rattle.plain.specs.All.{All}
 use Rattle.plain.specs.Items.{joinItems, PutItem}
 use Rattle.file_lines.specs.declared.Heading.{Heading}
-use Rattle.file_lines.specs.declared.Section.{Section}
-use Rattle.file_lines.specs.Grammar.{headLine, joined, wordOf, Item, RightItem, lineOf, sizeOf, numbersOf, partLines, InSection}
-use Rattle.file_lines.specs.Book.{part}
+use Rattle.file_lines.specs.Grammar.{headLine, joined, wordOf, Item, RightItem, lineOf, sizeOf, numbersOf, partLines, Section, Heads}
 use Rattle.file_lines.specs.Lines.{Says, SaysNone, Opens, OpensNone}
 use Rattle.file_lines.specs.declared.NumberAt.{NumberAt}
 use Rattle.file_lines.specs.declared.NumberAt.the-variants.{Is as number, Not as no-number}
@@ -31,9 +29,9 @@ abbrev pub itemsNumbers : (h : Heading) → List (Item h) → List ℕ
 itemsNumbers h xs = joinItems (map (numbersOf h) xs)
 
 -- a section's count on the first line
-abbrev pub HeadAt : Section → List ℕ → NumberAt → Type 0
-HeadAt s bytes (number n m) = Opens 10 (λ (k : ℕ). k ≤ s .most) (headLine (wordOf (s .heading))) bytes n m
-HeadAt s bytes no-number = OpensNone 10 (λ (k : ℕ). k ≤ s .most) (headLine (wordOf (s .heading))) bytes
+abbrev pub HeadAt : Heading → ℕ → List ℕ → NumberAt → Type 0
+HeadAt h most bytes (number n m) = Opens 10 (λ (k : ℕ). k ≤ most) (headLine (wordOf h)) bytes n m
+HeadAt h most bytes no-number = OpensNone 10 (λ (k : ℕ). k ≤ most) (headLine (wordOf h)) bytes
 
 -- what one line says is stored as item number i
 pub record LineStored (h : Heading) (line : List ℕ) (i : ℕ) (out out′ : List ℕ) : Type 0 where
@@ -77,16 +75,24 @@ abbrev pub LinesRead : Heading → ℕ → List ℕ → List ℕ → List ℕ �
 LinesRead h n bytes out out′ (lines-read m) = LinesAre h bytes out out′ n m
 LinesRead h n bytes out out′ (lines-depart i) = LinesStop h bytes i × (i < n)
 
--- A section at the start of the bytes, to place m: its n items, whose numbers are stored.
-pub record SectionIs (s : Section) (bytes out out′ : List ℕ) (n m : ℕ) : Type 0 where
-  pub items : List (Item (s .heading))
+-- A section headed h at the start of the bytes, to place m: its n items, whose numbers are stored.
+pub record SectionIs (h : Heading) (most : ℕ) (bytes out out′ : List ℕ) (n m : ℕ) : Type 0 where
+  pub items : List (Item h)
   pub count : length items ≡ n
-  pub fits : InSection s (part (s .heading) items)
+  pub few : n ≤ most
+  pub right : All (RightItem h) items
   pub within : m ≤ length bytes
-  pub split : bytes ≡ joined (partLines (s .heading) items) ++ drop m bytes
-  pub stored : AtFront (itemsNumbers (s .heading) items) out out′
+  pub split : bytes ≡ joined (partLines h items) ++ drop m bytes
+  pub stored : AtFront (itemsNumbers h items) out out′
 
--- Or the line after i lines departs, whatever sections follow. (i is bounded so that the line's number fits.)
-abbrev pub SectionRead : Section → List ℕ → List ℕ → List ℕ → Items → Type 0
-SectionRead s bytes out out′ (items-read n m) = SectionIs s bytes out out′ n m
-SectionRead s bytes out out′ (items-depart i) = ((G : List Section) → Departs (s ∷ G) bytes (i + 1)) × (i ≤ s .most + 1)
+-- Of the headings of a section these bytes can have h alone.
+pub record HeadedBy (s : Section) (h : Heading) (bytes : List ℕ) : Type 0 where
+  pub heads : Heads s h
+  pub only : (k : Heading) → Heads s k → (n : ℕ) (after : List ℕ) → bytes ≡ headLine (wordOf k) n ++ 10 ∷ after → k ≡ h
+
+-- Or the line after i lines departs from each section of so many items that the bytes can head by h alone, whatever
+-- sections follow. (i is bounded so that the line's number fits.)
+abbrev pub SectionRead : Heading → ℕ → List ℕ → List ℕ → List ℕ → Items → Type 0
+SectionRead h most bytes out out′ (items-read n m) = SectionIs h most bytes out out′ n m
+SectionRead h most bytes out out′ (items-depart i) =
+    ((s : Section) (G : List Section) → s .most ≡ most → HeadedBy s h bytes → Departs (s ∷ G) bytes (i + 1)) × (i ≤ most + 1)

@@ -4,12 +4,11 @@ use file_lines::Found;
 use file_lines::Heading;
 use file_lines::NumberAt;
 use file_lines::RuleLine;
-use file_lines::Section;
+use file_lines::Width;
 use file_numerals::Number;
 ghost use Prim.Native.Nat.{_+_, _*_, _≤_, _<_};
 ghost use lib.ListN.{length};
 ghost use Rattle.file_lines.specs.Grammar.{wordOf, sizeOf};
-ghost use Rattle.file_lines.specs.Book.{sectionRoom};
 ghost use Rattle.file_lines.specs.Lines.{HeadRead};
 ghost use Rattle.file_lines.specs.declared.Heading.the-variants.{Texts as texts, Blocks as blocks, Rules as rules};
 ghost use Rattle.file_sections.specs.Parts.{HeadAt, LineRead, LineHere, LinesRead, SectionRead};
@@ -39,18 +38,19 @@ fn read_heading(heading: Heading, line: &[u8], most: u64) -> Number
 {
     match heading {
         Heading::Texts => file_lines::read_head(line, b"TEXTS ", most),
-        Heading::Blocks => file_lines::read_head(line, b"BLOCKS ", most),
+        Heading::Blocks(width) => match width {
+            Width::Low => file_lines::read_head(line, b"BLOCKS ", most),
+            Width::Wide => file_lines::read_head(line, b"WIDE ", most),
+        },
         Heading::Rules => file_lines::read_head(line, b"RULES ", most),
     }
 }
 
 // A section's count, and the place past its newline.
-fn head_at(section: Section, bytes: &[u8]) -> NumberAt
-    requires { ⌜ section .most ≤ 65535 ⌝ }
-    ensures { λ r. ⌜ HeadAt section (now (bytes .entry)) r ⌝ }
+fn head_at(heading: Heading, most: u64, bytes: &[u8]) -> NumberAt
+    requires { ⌜ most ≤ 65535 ⌝ }
+    ensures { λ r. ⌜ HeadAt heading most (now (bytes .entry)) r ⌝ }
 {
-    let heading = section.heading;
-    let most = section.most as u64;
     match file_lines::find(bytes, b'\n') {
         Found::Nothing => NumberAt::Not,
         Found::At(i) => match read_heading(heading, &bytes[..i], most) {
@@ -74,11 +74,11 @@ fn count_line(line: &[u8], out: &mut [u64], i: usize) -> bool
     }
 }
 
-fn block_line(line: &[u8], out: &mut [u64], i: usize) -> bool
-    requires { ⌜ i * sizeOf blocks + sizeOf blocks ≤ length (now out) ⌝ }
-    ensures { λ r. ⌜ LineRead blocks (now (line .entry)) i (now (out .entry)) (now (out .exit)) r ⌝ }
+fn block_line(width: Width, line: &[u8], out: &mut [u64], i: usize) -> bool
+    requires { ⌜ i * sizeOf (blocks width) + sizeOf (blocks width) ≤ length (now out) ⌝ }
+    ensures { λ r. ⌜ LineRead (blocks width) (now (line .entry)) i (now (out .entry)) (now (out .exit)) r ⌝ }
 {
-    match file_lines::read_block(line) {
+    match file_lines::read_block(width, line) {
         BlockLine::Not => false,
         BlockLine::Is(b) => {
             shapes::put_block(out, i, b);
@@ -110,7 +110,7 @@ fn read_line(heading: Heading, line: &[u8], out: &mut [u64], i: usize) -> bool
 {
     match heading {
         Heading::Texts => count_line(line, out, i),
-        Heading::Blocks => block_line(line, out, i),
+        Heading::Blocks(width) => block_line(width, line, out, i),
         Heading::Rules => rule_line(line, out, i),
     }
 }
@@ -148,17 +148,16 @@ fn read_lines(heading: Heading, bytes: &[u8], n: usize, out: &mut [u64]) -> Line
     Lines::Read(at)
 }
 
-// A whole section, its items read into the numbers that they are.
-pub fn read_section(section: Section, bytes: &[u8], out: &mut [u64]) -> Items
-    requires { ⌜ section .most ≤ 65535 ⌝ }
-    requires { ⌜ sectionRoom section ≤ length (now out) ⌝ }
-    ensures { λ r. ⌜ SectionRead section (now (bytes .entry)) (now (out .entry)) (now (out .exit)) r ⌝ }
+// A whole section of so many items at most, read into the numbers that they are.
+pub fn read_section(heading: Heading, most: usize, bytes: &[u8], out: &mut [u64]) -> Items
+    requires { ⌜ most ≤ 65535 ⌝ }
+    requires { ⌜ most * sizeOf heading ≤ length (now out) ⌝ }
+    ensures { λ r. ⌜ SectionRead heading most (now (bytes .entry)) (now (out .entry)) (now (out .exit)) r ⌝ }
 {
-    match head_at(section, bytes) {
+    match head_at(heading, most as u64, bytes) {
         NumberAt::Not => Items::Departs(0),
         NumberAt::Is(count, m) => {
             let n = count as usize;
-            let heading = section.heading;
             match read_lines(heading, &bytes[m..], n, out) {
                 Lines::Departs(i) => Items::Departs(i + 1),
                 Lines::Read(k) => Items::Read(n, m + k),

@@ -1,6 +1,7 @@
 -- Where a file departs, section by section, whatever the sections are. Assumes nothing.
 use mathlib.Core.Path.{_≡_, refl, sym, ap, _∙_, subst, subst₂}
 use mathlib.Core.List.{List, [], _∷_, _++_, map, append-assoc}
+use mathlib.Core.Logic.{inl}
 use Prim.Native.Nat.{ℕ, zero, suc, _+_, _-_, _≤_, _<_}
 use native.Mathlib.Omega.{arith}
 use lib.ListN.{length, drop, replicate, length-append, length-map, length-replicate}
@@ -10,8 +11,7 @@ use Rattle.plain.specs.All.All.{none, more}
 use Rattle.plain.proofs.All.{all-append}
 use Rattle.plain.proofs.Items.{map-join}
 use Rattle.file_lines.specs.declared.Heading.{Heading}
-use Rattle.file_lines.specs.declared.Section.{Section}
-use Rattle.file_lines.specs.Grammar.{headLine, joined, wordOf, Item, RightItem, lineOf, Part, partLines, linesOf, writing, InSection, InGrammar}
+use Rattle.file_lines.specs.Grammar.{headLine, joined, wordOf, Item, RightItem, lineOf, Part, partLines, linesOf, writing, Section, Heads, InSection, InGrammar}
 use Rattle.file_lines.specs.Grammar.InGrammar.{none as no-part, more as one-part}
 use Rattle.file_lines.specs.Book.{part}
 use Rattle.file_lines.specs.Lines.{Opens, OpensNone}
@@ -29,9 +29,9 @@ part-length h xs = let l = length-map xs (lineOf h) in let e : suc (length (map 
 module _ {s : Section} {G : List Section} where
   -- the first line is a head line
   first-line : {X : List Part} {l : List ℕ} {ls : List (List ℕ)} → InGrammar (s ∷ G) X → linesOf X ≡ l ∷ ls
-      → (n : ℕ) × (n ≤ s .most) × (l ≡ headLine (wordOf (s .heading)) n)
+      → (h : Heading) × (n : ℕ) × Heads s h × (n ≤ s .most) × (l ≡ headLine (wordOf h) n)
   unfolding linesOf partLines
-  first-line (one-part {p = p} i g) e = (length (p .items), i .few, sym (head-one e) ∙ ap (λ (h : Heading). headLine (wordOf h) (length (p .items))) (i .heading))
+  first-line (one-part {p = p} i g) e = (p .heading, length (p .items), i .heading, i .few, sym (head-one e))
 
   some-line : {X : List Part} → InGrammar (s ∷ G) X → linesOf X ≡ [] → ⊥
   unfolding linesOf partLines
@@ -58,11 +58,12 @@ emptyParts (s ∷ G) = part (s .heading) [] ∷ emptyParts G
 empty-right : (G : List Section) → InGrammar G (emptyParts G)
 unfolding emptyParts
 empty-right [] = no-part
-empty-right (s ∷ G) = one-part {s = s} {p = part (s .heading) []} (record { heading = refl; few = omega arith; right = none }) (empty-right G)
+empty-right (s ∷ G) = one-part {s = s} {p = part (s .heading) []} (record { heading = inl refl; few = omega arith; right = none }) (empty-right G)
 
 -- ---- the count's line departs
 
-pub head-departs : (s : Section) (G : List Section) (bytes : List ℕ) → OpensNone 10 (λ (k : ℕ). k ≤ s .most) (headLine (wordOf (s .heading))) bytes → Departs (s ∷ G) bytes 1
+pub head-departs : (s : Section) (G : List Section) (bytes : List ℕ) → ((h : Heading) → Heads s h → OpensNone 10 (λ (k : ℕ). k ≤ s .most) (headLine (wordOf h)) bytes)
+    → Departs (s ∷ G) bytes 1
 unfolding joined
 head-departs s G bytes no-head = record {
   before = [];
@@ -70,7 +71,7 @@ head-departs s G bytes no-head = record {
   place = refl;
   split = refl;
   begins = record { parts = emptyParts (s ∷ G); right = empty-right (s ∷ G); more = linesOf (emptyParts (s ∷ G)); lines = refl };
-  stops = λ line after e b. let f = first-line (b .right) (b .lines) in no-head (f .0) after (f .1) (e ∙ ap (λ (l : List ℕ). l ++ 10 ∷ after) (f .2));
+  stops = λ line after e b. let f = first-line (b .right) (b .lines) in no-head (f .0) (f .2) (f .1) after (f .3) (e ∙ ap (λ (l : List ℕ). l ++ 10 ∷ after) (f .4));
   unfinished = λ e X g l. some-line g l;
 }
 
@@ -88,7 +89,7 @@ right-copies h zero = none
 right-copies h (suc k) = more (some-right h) (right-copies h k)
 
 -- the lines of a section that has the heading h
-pub item-departs : (s : Section) (G : List Section) (h : Heading) → h ≡ s .heading → (bytes : List ℕ) (n m : ℕ) → Opens 10 (λ (k : ℕ). k ≤ s .most) (headLine (wordOf h)) bytes n m
+pub item-departs : (s : Section) (G : List Section) (h : Heading) → Heads s h → (bytes : List ℕ) (n m : ℕ) → Opens 10 (λ (k : ℕ). k ≤ s .most) (headLine (wordOf h)) bytes n m
     → (xs : List (Item h)) (rest : List ℕ) → length xs < n → All (RightItem h) xs → drop m bytes ≡ joined (map (lineOf h) xs) ++ rest → OpensNone 10 (RightItem h) (lineOf h) rest
     → Departs (s ∷ G) bytes (length xs + 2)
 unfolding joined linesOf partLines

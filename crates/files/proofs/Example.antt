@@ -5,6 +5,7 @@ use mathlib.Core.List.{List, [], _∷_}
 use Prim.Native.Nat.{ℕ}
 use Rattle.file_numerals.specs.Digits.{glyph, digits, decimalBy, decimal}
 use Rattle.shapes.specs.Shape.{Block}
+use Rattle.file_lines.specs.declared.Width.the-variants.{Low}
 use Rattle.file_lines.specs.Grammar.{headLine, twoNumbers, blockLine, ruleLine, partLines, linesOf, joined, writing}
 use Rattle.file_lines.specs.Book.{Book, sheetParts, bookParts}
 
@@ -15,7 +16,7 @@ pub exampleBook : Book
 unfolding block
 exampleBook =
     record {
-      sheet = record { counts = 1 ∷ 1 ∷ []; blocks = block 0x0000000e000000000000000000000000 0 3 ∷ block 0x0000001c000000000000000000000000 2 2 ∷ [] };
+      sheet = record { width = Low; counts = 1 ∷ 1 ∷ []; blocks = block 0x0000000e000000000000000000000000 0 3 ∷ block 0x0000001c000000000000000000000000 2 2 ∷ [] };
       rules = record { kind = 0; a = 1; b = 2; c = 0 } ∷ [];
     }
 

@@ -3,3 +3,4 @@ pub mod Items
 pub mod Departs
 pub mod Unique
 pub mod Example
+pub mod Headings

@@ -17,8 +17,9 @@ use Rattle.rules.specs.declared.Rule.{Rule}
 use Rattle.shapes.specs.Shape.{Block}
 use Rattle.file_lines.specs.declared.Heading.{Heading}
 use Rattle.file_lines.specs.declared.Heading.the-variants.{Texts, Blocks, Rules}
-use Rattle.file_lines.specs.declared.Section.{Section}
-use Rattle.file_lines.specs.Grammar.{joined, Item, RightItem, lineOf, Part, partLines, linesOf, writing, InGrammar}
+use Rattle.file_lines.specs.declared.Width.{Width}
+use Rattle.file_lines.specs.declared.Width.the-variants.{Low}
+use Rattle.file_lines.specs.Grammar.{joined, Item, RightItem, lineOf, Part, partLines, linesOf, writing, Section, InGrammar}
 use Rattle.file_lines.specs.Grammar.InGrammar.{none as no-part, more as one-part}
 use Rattle.file_lines.specs.Book.{Sheet, Book, part, sheetParts, bookParts}
 use Rattle.file_lines.specs.Lines.{Without}
@@ -146,11 +147,14 @@ lines-one (one-part {p = p} {X = X} i g) (one-part {p = q} {X = Y} j k) e =
     let t = part-one (p .heading) (p .items) (linesOf X) (i .right) (q .heading) (q .items) (linesOf Y) (j .right) e in
     ap₂ _∷_ (t .0) (lines-one g k (t .1))
 
+pub writing-one : {G : List Section} {X Y : List Part} → InGrammar G X → InGrammar G Y → writing X ≡ writing Y → X ≡ Y
+writing-one {X = X} {Y = Y} p q e = lines-one p q (same-lines X Y e)
+
 -- ---- one verdict on a file, in every grammar
 
 module _ {G : List Section} where
   pub accepts-one : {file : List ℕ} {X Y : List Part} → AcceptedIn G file X → AcceptedIn G file Y → X ≡ Y
-  accepts-one {X = X} {Y = Y} p q = lines-one (p .right) (q .right) (same-lines X Y (sym (p .is) ∙ q .is))
+  accepts-one p q = writing-one (p .right) (q .right) (sym (p .is) ∙ q .is)
 
   in-grammar-one : {file : List ℕ} → OneOf (inGrammar G file)
   in-grammar-one {file} = record {
@@ -165,17 +169,22 @@ module _ {G : List Section} where
 
 countsIn : (h : Heading) → List (Item h) → List ℕ
 countsIn Texts xs = xs
-countsIn Blocks xs = []
+countsIn (Blocks w) xs = []
 countsIn Rules xs = []
 
 blocksIn : (h : Heading) → List (Item h) → List Block
 blocksIn Texts xs = []
-blocksIn Blocks xs = xs
+blocksIn (Blocks w) xs = xs
 blocksIn Rules xs = []
+
+widthIn : Heading → Width
+widthIn Texts = Low
+widthIn (Blocks w) = w
+widthIn Rules = Low
 
 rulesIn : (h : Heading) → List (Item h) → List Rule
 rulesIn Texts xs = []
-rulesIn Blocks xs = []
+rulesIn (Blocks w) xs = []
 rulesIn Rules xs = xs
 
 noPart : Part
@@ -185,17 +194,21 @@ partAt : ℕ → List Part → Part
 partAt i X = getD X i noPart
 
 sheetFrom : List Part → Sheet
-sheetFrom X = record { counts = countsIn (partAt 0 X .heading) (partAt 0 X .items); blocks = blocksIn (partAt 1 X .heading) (partAt 1 X .items) }
+sheetFrom X = record {
+  width = widthIn (partAt 1 X .heading);
+  counts = countsIn (partAt 0 X .heading) (partAt 0 X .items);
+  blocks = blocksIn (partAt 1 X .heading) (partAt 1 X .items);
+}
 
 rulesFrom : List Part → List Rule
 rulesFrom X = rulesIn (partAt 2 X .heading) (partAt 2 X .items)
 
 pub sheet-one : (s t : Sheet) → sheetParts s ≡ sheetParts t → s ≡ t
-unfolding sheetParts partAt sheetFrom countsIn blocksIn
+unfolding sheetParts partAt sheetFrom widthIn countsIn blocksIn
 sheet-one s t e = ap sheetFrom e
 
 pub book-one : (b c : Book) → bookParts b ≡ bookParts c → b ≡ c
-unfolding bookParts sheetParts partAt sheetFrom rulesFrom countsIn blocksIn rulesIn
+unfolding bookParts sheetParts partAt sheetFrom rulesFrom widthIn countsIn blocksIn rulesIn
 book-one b c e i = record { sheet = ap sheetFrom e i; rules = ap rulesFrom e i }
 
 -- ---- one verdict on a book's file

@@ -5,8 +5,7 @@ use Prim.Native.Nat.{ℕ, _+_, _≤_}
 use lib.ListN.{length}
 use Rattle.answers.specs.Told.{Told, tell}
 use Rattle.answers.specs.Turns.{Turn, FirstDue, need}
-use Rattle.file_lines.specs.declared.Section.{Section}
-use Rattle.file_lines.specs.Grammar.{Part, InGrammar, linesOf, joined, writing}
+use Rattle.file_lines.specs.Grammar.{Part, Section, InGrammar, linesOf, joined, writing}
 use Rattle.file_lines.specs.Book.{Book, bookParts, bookGrammar, fileLimit}
 
 -- Some file in the grammar has these as its first lines.

@@ -12,14 +12,12 @@ use Rattle.answers.specs.Turns.{here, later}
 use Rattle.answers.specs.declared.Refusal.{Refusal}
 use Rattle.answers.specs.declared.Sought.{Sought}
 use Rattle.answers.specs.declared.Sought.the-variants.{Nowhere, InSome, InAll, Refused}
-use Rattle.bases.specs.Base.{Holds, codes}
-use Rattle.sets.proofs.Exact.{held-under}
+use Rattle.bases.specs.Base.{Holds}
 use Rattle.plain.specs.All.{All}
-use Rattle.plain.proofs.All.{all-left, all-right, all-at, all-map}
+use Rattle.plain.proofs.All.{all-left, all-right, all-at}
 use Rattle.shapes.specs.Shape.{Block, Fits}
-use Rattle.shapes.specs.Lent.{Numbers, shapeOf, Accepted}
+use Rattle.shapes.specs.Lent.{shapeOf, Accepted}
 use Rattle.shapes.proofs.Fits.{not-in-text}
-use Rattle.shapes.proofs.Lent.{small-bases}
 use Rattle.shapes.proofs.Refused.{shape-other}
 use Rattle.find_texts.specs.Occurs.{Lacks, FirstAt, SomeLacks, SomeFirst}
 use Rattle.find_texts.proofs.Occur.{occurs-within}
@@ -88,9 +86,6 @@ module _ {xs mark : List ℕ} (a : Asked xs mark) where
       go (InSome k m) q = absurd (not-there (q .1 .1 .at-least))
       go (InAll k m) q = absurd (not-there (q .1 .1 .at-least))
       go (Refused k) q = absurd (find-refused-not xs mark q a)
-
-  pub above-127 : (r : Sought) → Numbers xs → FindPromise xs mark r → (j : ℕ) → j < length mark → codes ≤ getD mark j 0 → r ≡ Nowhere
-  above-127 r n p j l h = never r p j l (all-map (λ b s held. let k = held-under codes s (getD mark j 0) held in omega arith) (small-bases xs n))
 
 pub empty-answer : {xs : List ℕ} (r : Sought) → Accepted xs → FindPromise xs [] r → (lacking r ≡ false) × (leastIndex r ≡ 1) × (greatestIndex r ≡ 1)
 empty-answer {xs} Nowhere a p = let t = some-text (a .sound) in absurd (p .1 (t .0) (t .1) .nowhere 1 (empty-first (t .0) .there))

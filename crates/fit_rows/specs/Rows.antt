@@ -32,15 +32,19 @@ pub record Placed (t : List ℕ) (k : ℕ) (table : List ℕ) : Type 0 where
 abbrev pub PlacesOf : List ℕ → List ℕ → Type 0
 PlacesOf t table = (c : ℕ) → c < codes → Exactly (rowOf table c) (λ p. (p < length t) × (getD t p 0 ≡ c))
 
--- the first k characters of t are among those seen, but for bytes that are no characters
+-- the first k characters of t are among those seen
 abbrev pub SeenTo : List ℕ → ℕ → ℕ → Type 0
-SeenTo t k seen = (p : ℕ) → p < k → getD t p 0 < codes → Holds seen (getD t p 0)
+SeenTo t k seen = (p : ℕ) → p < k → Holds seen (getD t p 0)
 
 -- p stands in the row of a number that w holds
 pub record Picked (R : ℕ → ℕ) (w p : ℕ) : Type 0 where
   pub number : ℕ
   pub held : Holds w number
   pub there : Holds (R number) p
+
+-- or is among those so far
+abbrev pub AndPicked : ℕ → (ℕ → ℕ) → ℕ → ℕ → Type 0
+AndPicked so-far R w p = Holds so-far p ⊎ Picked R w p
 
 -- the places whose character the base holds
 abbrev pub HeldAt : ℕ → List ℕ → ℕ → Type 0

@@ -16,25 +16,26 @@ use Rattle.sets.specs.declared.Set.{Set}
 use Rattle.sets.specs.Set.{setOf, Exactly}
 use Rattle.sets.proofs.Exact.{exactly-as, exactly-at, none-exactly, both-exactly, either-exactly, one-exactly, held-under}
 use Rattle.sets.proofs.Four.{four-exactly}
-use Rattle.fit_rows.specs.Rows.{rowOf, Picked, PlacedAt, Placed, PlacesOf, SeenTo, HeldAt}
+use Rattle.fit_rows.specs.Rows.{rowOf, Picked, AndPicked, PlacedAt, Placed, PlacesOf, SeenTo, HeldAt}
 use Rattle.fit_tables.proofs.Lowest.{lowest-off}
 
--- ---- the rows of the numbers of w, gathered in r; those of `left` are still to come
+-- ---- the rows of the numbers of w, gathered in r with those so far; those of `left` are still to come
 
-pub record Picking (R : ℕ → ℕ) (w left r : ℕ) : Type 0 where
+pub record Picking (R : ℕ → ℕ) (w so-far left r : ℕ) : Type 0 where
   pub kept : (e : ℕ) → Holds left e → Holds w e
-  pub so : (p : ℕ) → Holds r p → Picked R w p
+  pub old : (p : ℕ) → Holds so-far p → Holds r p
+  pub so : (p : ℕ) → Holds r p → AndPicked so-far R w p
   pub has : (e p : ℕ) → Holds w e → Holds (R e) p → Holds left e ⊎ Holds r p
 
-module _ (R : ℕ → ℕ) (w : ℕ) where
-  pub picking-none : {r : ℕ} → r ≡ 0 → Picking R w w r
-  unfolding Empty
-  picking-none z = record { kept = λ e h. h; so = λ p h. absurd (none-in-zero p (subst (λ (x : ℕ). Holds x p) z h)); has = λ e p h _. inl h }
+module _ (R : ℕ → ℕ) (w so-far : ℕ) where
+  pub picking-none : Picking R w so-far w so-far
+  picking-none = record { kept = λ e h. h; old = λ p h. h; so = λ p h. inl h; has = λ e p h _. inl h }
 
-  pub picking-more : {left r n t : ℕ} → Least left t → n ≡ bitOr r (R t) → Picking R w left r → Picking R w (bitAnd left (left - 1)) n
+  pub picking-more : {left r n t : ℕ} → Least left t → n ≡ bitOr r (R t) → Picking R w so-far left r → Picking R w so-far (bitAnd left (left - 1)) n
   picking-more {left} {r} {n} {t} l e g = record {
     kept = λ e h. g .kept e (off .so e h .0);
-    so = λ p h. ⊎-elim (g .so p) (λ i. record { number = t; held = g .kept t (l .held); there = i }) (added .so p h);
+    old = λ p h. added .has p (inl (g .old p h));
+    so = λ p h. ⊎-elim (g .so p) (λ i. inr (record { number = t; held = g .kept t (l .held); there = i })) (added .so p h);
     has = λ e p h i. ⊎-elim
         (λ z. inr (added .has p (inr (subst (λ (x : ℕ). Holds (R x) p) z i))))
         (λ z. ⊎-elim (λ k. inl (off .has e (k, z))) (λ k. inr (added .has p (inl k))) (g .has e p h i))
@@ -47,57 +48,66 @@ module _ (R : ℕ → ℕ) (w : ℕ) where
       added : Exactly n (λ p. Holds r p ⊎ Holds (R t) p)
       added = either-exactly r (R t) e
 
-  pub picking-done : {left r : ℕ} → left ≡ 0 → Picking R w left r → Exactly r (Picked R w)
+  pub picking-done : {left r : ℕ} → left ≡ 0 → Picking R w so-far left r → Exactly r (AndPicked so-far R w)
   unfolding Empty
   picking-done z g = record {
     so = g .so;
-    has = λ p k. ⊎-elim
+    has = λ p. ⊎-elim (g .old p) (λ k. ⊎-elim
         (λ h. absurd (none-in-zero _ (subst (λ (x : ℕ). Holds x (k .number)) z h)))
         (λ h. h)
-        (g .has (k .number) p (k .held) (k .there));
+        (g .has (k .number) p (k .held) (k .there)));
   }
 
--- a set of characters is picked word by word
-module _ (R : ℕ → ℕ) (s : Set) (fa : s .a < 2 ^ 64) (fb : s .b < 2 ^ 64) where
-  first : (e : ℕ) → e < 64 → setOf s / 2 ^ e % 2 ≡ s .a / 2 ^ e % 2
-  unfolding setOf
-  first e l = first-word (s .a) e _ l
+-- where there were none so far
+pub picked-alone : {R : ℕ → ℕ} {w so-far n : ℕ} → so-far ≡ 0 → Exactly n (AndPicked so-far R w) → Exactly n (Picked R w)
+unfolding Empty
+picked-alone z = exactly-as (λ p. ⊎-elim (λ h. absurd (none-in-zero p (subst (λ (x : ℕ). Holds x p) z h))) (λ k. k)) (λ p k. inr k)
 
-  second : (e : ℕ) → e < 64 → setOf s / 2 ^ (64 + e) % 2 ≡ s .b / 2 ^ e % 2
-  unfolding setOf
-  second e l = next-words (s .a) e _ fa ∙ first-word (s .b) e _ l
-
-  from-words : (p : ℕ) → Picked (λ e. R (0 + e)) (s .a) p ⊎ Picked (λ e. R (64 + e)) (s .b) p → Picked R (setOf s) p
+-- the characters of some words from number k on are picked word by word, however many
+module _ (R : ℕ → ℕ) (k w : ℕ) (ws : List ℕ) (f : w < 2 ^ 64) where
+  from-words : (p : ℕ) → Picked (λ e. R (k + e)) w p ⊎ Picked (λ e. R (k + 64 + e)) (baseOf ws) p → Picked (λ e. R (k + e)) (baseOf (w ∷ ws)) p
   unfolding Holds
   from-words p = ⊎-elim
-      (λ k. let e = k .number in
-      let at : e ≡ 0 + e = omega arith in
-      record { number = 0 + e; held = subst (Holds (setOf s)) at (first e (held-under 64 fa e (k .held)) ∙ k .held); there = k .there })
-      (λ k. record { number = 64 + k .number; held = second (k .number) (held-under 64 fb (k .number) (k .held)) ∙ k .held; there = k .there })
+      (λ h. let e = h .number in record { number = e; held = first-word w e ws (held-under 64 f e (h .held)) ∙ h .held; there = h .there })
+      (λ h. let e = h .number in
+      let at : k + 64 + e ≡ k + (64 + e) = omega arith in
+      record { number = 64 + e; held = next-words w e ws f ∙ h .held; there = subst (λ (x : ℕ). Holds (R x) p) at (h .there) })
 
-  to-words : ((c : ℕ) → Holds (setOf s) c → c < codes) → (p : ℕ) → Picked R (setOf s) p
-      → Picked (λ e. R (0 + e)) (s .a) p ⊎ Picked (λ e. R (64 + e)) (s .b) p
+  to-words : (p : ℕ) → Picked (λ e. R (k + e)) (baseOf (w ∷ ws)) p → Picked (λ e. R (k + e)) w p ⊎ Picked (λ e. R (k + 64 + e)) (baseOf ws) p
   unfolding Holds
-  to-words small p k =
-      let c = k .number in
-      let top = small c (k .held) in
+  to-words p h =
+      let e = h .number in
       ⊎-elim
-      (λ l. let at : c ≡ 0 + c = omega arith in
-      inl (record { number = c; held = sym (first c l) ∙ k .held; there = subst (λ (x : ℕ). Holds (R x) p) at (k .there) }))
-      (λ l. let at : c ≡ 64 + (c - 64) = omega arith in
+      (λ l. inl (record { number = e; held = sym (first-word w e ws l) ∙ h .held; there = h .there }))
+      (λ l. let back : e ≡ 64 + (e - 64) = omega arith in
+      let at : k + e ≡ k + 64 + (e - 64) = omega arith in
       inr (record {
-        number = c - 64;
-        held = sym (second (c - 64) (omega arith)) ∙ subst (Holds (setOf s)) at (k .held);
-        there = subst (λ (x : ℕ). Holds (R x) p) at (k .there);
+        number = e - 64;
+        held = sym (next-words w (e - 64) ws f) ∙ subst (Holds (baseOf (w ∷ ws))) back (h .held);
+        there = subst (λ (x : ℕ). Holds (R x) p) at (h .there);
       }))
-      (lt-or-le c 64)
+      (lt-or-le e 64)
 
-  pub picked-words : {x y n : ℕ} → ((c : ℕ) → Holds (setOf s) c → c < codes)
-      → Exactly x (Picked (λ e. R (0 + e)) (s .a)) → Exactly y (Picked (λ e. R (64 + e)) (s .b)) → n ≡ bitOr x y → Exactly n (Picked R (setOf s))
-  picked-words {x} {y} small a b e = exactly-as
-      (λ p h. from-words p (⊎-elim (λ i. inl (a .so p i)) (λ i. inr (b .so p i)) h))
-      (λ p k. ⊎-elim (λ h. inl (a .has p h)) (λ h. inr (b .has p h)) (to-words small p k))
-      (either-exactly x y e)
+  pub picked-more : {x y : ℕ} → Exactly x (AndPicked y (λ e. R (k + e)) w) → Exactly y (Picked (λ e. R (k + 64 + e)) (baseOf ws))
+      → Exactly x (Picked (λ e. R (k + e)) (baseOf (w ∷ ws)))
+  picked-more a b = exactly-as
+      (λ p h. from-words p (⊎-elim (λ i. inr (b .so p i)) (λ i. inl i) h))
+      (λ p h. ⊎-elim (λ i. inr i) (λ i. inl (b .has p i)) (to-words p h))
+      a
+
+-- of no words none
+pub picked-none : {R : ℕ → ℕ} {n : ℕ} → n ≡ 0 → Exactly n (Picked R (baseOf []))
+unfolding baseOf Empty
+picked-none z = none-exactly z (λ p h. none-in-zero (h .number) (h .held))
+
+-- from number 0 on
+pub picked-all : {R : ℕ → ℕ} {w n : ℕ} → Exactly n (Picked (λ e. R (0 + e)) w) → Exactly n (Picked R w)
+picked-all {R} = exactly-as
+    (λ p h. record { number = h .number; held = h .held; there = subst (λ (x : ℕ). Holds (R x) p) (zero-add (h .number)) (h .there) })
+    (λ p h. record { number = h .number; held = h .held; there = subst (λ (x : ℕ). Holds (R x) p) (sym (zero-add (h .number))) (h .there) })
+  where
+    zero-add : (e : ℕ) → 0 + e ≡ e
+    zero-add e = omega arith
 
 -- ---- the table of the first k places
 
@@ -127,11 +137,7 @@ module _ (t : List ℕ) (k : ℕ) (table : List ℕ) (g : Placed t k table) wher
           (λ c. let there : i / codes * 64 + e ≡ k = omega arith in absurd (n (omega arith) (sym (h .1 .1) ∙ ap (λ (x : ℕ). getD t x 0) there)))
           (lt-or-le (i / codes * 64 + e) k)
 
-  -- a byte that is no character has no row
-  pub placed-other : codes ≤ getD t k 0 → Placed t (k + 1) table
-  placed-other h = record { small = g .small; words = λ i. kept-word (getD table i 0) i refl (λ y z. omega arith) }
-
-  -- any other character gets the bit b of place k in its row
+  -- a character gets the bit b of place k in its row
   module _ (c at b : ℕ) (low : c < codes) (within : at < length table) (same : getD t k 0 ≡ c) (place : at ≡ k / 64 * codes + c) (bit : b ≡ 2 ^ (k % 64)) where
     one : Exactly b (λ e. e ≡ k % 64)
     one = exactly-at bit (one-exactly (k % 64))
@@ -193,9 +199,9 @@ placed-rows t table few g c low =
         subst₂ (λ (x y : ℕ). Exactly (getD table i 0) (λ e. (e < 64) × ((x + e < length t) × (getD t (x + e) 0 ≡ y)))) p q (g .words i)
 
 -- a row of one word
-pub short-row : (table : List ℕ) (c : ℕ) {n : ℕ} → length table ≤ codes → n ≡ baseOf (getD table c 0 ∷ (0 ∷ [])) → n ≡ rowOf table c
+pub short-row : (table : List ℕ) (c : ℕ) → length table ≤ codes → baseOf (getD table c 0 ∷ (0 ∷ (0 ∷ (0 ∷ [])))) ≡ rowOf table c
 unfolding baseOf
-short-row table c short e = e ∙ (λ m. baseOf (getD table c 0 ∷ (past codes (omega arith) m ∷ (past (2 * codes) (omega arith) m ∷ (past (3 * codes) (omega arith) m ∷ [])))))
+short-row table c short = λ m. baseOf (getD table c 0 ∷ (past codes (omega arith) m ∷ (past (2 * codes) (omega arith) m ∷ (past (3 * codes) (omega arith) m ∷ []))))
   where
     past : (j : ℕ) → codes ≤ j → 0 ≡ getD table (j + c) 0
     past j h = sym (List·getD-eq-default table 0 (let z : length table ≤ j + c = omega arith in z))
@@ -203,17 +209,11 @@ short-row table c short e = e ∙ (λ m. baseOf (getD table c 0 ∷ (past codes 
 -- ---- one character more is seen
 
 module _ (t : List ℕ) (k seen : ℕ) (s : SeenTo t k seen) where
-  pub seen-other : codes ≤ getD t k 0 → SeenTo t (k + 1) seen
-  seen-other h p l c = ⊎-elim
-      (λ d. s p d c)
-      (λ d. let same : getD t p 0 ≡ getD t k 0 = ap (λ (q : ℕ). getD t q 0) (let z : p ≡ k = omega arith in z) in absurd (omega arith))
-      (lt-or-le p k)
-
   pub seen-more : {one more : ℕ} → Exactly one (λ e. e ≡ getD t k 0) → more ≡ bitOr seen one → SeenTo t (k + 1) more
-  seen-more {one} x e p l c =
+  seen-more {one} x e p l =
       let added = either-exactly seen one e in
       ⊎-elim
-      (λ d. added .has _ (inl (s p d c)))
+      (λ d. added .has _ (inl (s p d)))
       (λ d. added .has _ (inr (x .has _ (ap (λ (q : ℕ). getD t q 0) (let z : p ≡ k = omega arith in z)))))
       (lt-or-le p k)
 
@@ -236,4 +236,4 @@ held-places t table base seen {chars} m s low e = exactly-as so has
     has p h =
         let c = getD t p 0 in
         let l = low c (h .1) in
-        record { number = c; held = shared .has c (h .1, s p (h .0) l); there = m c l .has p (h .0, refl) }
+        record { number = c; held = shared .has c (h .1, s p (h .0)); there = m c l .has p (h .0, refl) }

@@ -48,7 +48,7 @@ fn fits_blocks(shape: &[u64], text: &[u8]) -> bool
     fits_by(shape, text, &table, seen)
 }
 
-// Whether a text fits a shape. A byte above 127 or a text too long simply does not fit.
+// Whether a text fits a shape. A text too long simply does not fit.
 pub fn fits(shape: &[u64], text: &[u8]) -> Fit
     ensures { λ r. ⌜ FitPromise (now (shape .entry)) (now (text .entry)) r ⌝ }
 {

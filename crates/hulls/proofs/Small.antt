@@ -28,6 +28,10 @@ sub-small (suc k) a b l s =
     let e : 2 ^ suc k ≡ 2 * 2 ^ k = pow-succ' 2 k in
     omega arith
 
+-- below every power, and so below the one of all codes
+pub within-below : (k : ℕ) {H S : List Block} → Within H S → All (λ b. b .base < 2 ^ k) S → All (λ b. b .base < 2 ^ k) H
+within-below k end l = All.none
+within-below k (next {h} {b} p w) (more l m) = more (sub-small k (h .base) (b .base) l (p .base)) (within-below k w m)
+
 pub within-small : {H S : List Block} → Within H S → All Small S → All Small H
-within-small end k = All.none
-within-small (next {h} {b} p w) (more k l) = more (sub-small codes (h .base) (b .base) k (p .base)) (within-small w l)
+within-small = within-below codes

@@ -17,6 +17,12 @@ pub numbers-length : (k : ℕ) (xs : List ℕ) (p : ℕ) → length (numbersAt k
 numbers-length zero xs p = refl
 numbers-length (suc k) xs p = ap suc (numbers-length k xs (suc p))
 
+-- each of them
+pub numbers-get : (k : ℕ) (xs : List ℕ) (p j : ℕ) → j < k → getD (numbersAt k xs p) j 0 ≡ getD xs (p + j) 0
+numbers-get zero xs p j h = absurd (omega arith)
+numbers-get (suc k) xs p zero h = ap (λ (q : ℕ). getD xs q 0) (sym (add-zero p))
+numbers-get (suc k) xs p (suc j) h = numbers-get k xs (suc p) j (omega arith) ∙ ap (λ (q : ℕ). getD xs q 0) (suc-add p j ∙ sym (add-suc p j))
+
 -- where two lists have the same numbers at these places
 pub numbers-same : (k : ℕ) (xs ys : List ℕ) (p q : ℕ) → ((j : ℕ) → j < k → getD xs (p + j) 0 ≡ getD ys (q + j) 0) → numbersAt k xs p ≡ numbersAt k ys q
 numbers-same zero xs ys p q same = refl

@@ -1,15 +1,18 @@
 -- The laws of a set's four words: those of one word more, four times. Assumes nothing.
 use mathlib.Core.Path.{_≡_, refl, sym, ap, _∙_, subst}
-use mathlib.Core.List.{[]}
+use mathlib.Core.List.{[], _∷_}
 use Prim.Native.Nat.{ℕ, _+_, _-_, _*_, _/_, _%_, _^_, _≤_, _<_}
 use native.Mathlib.Nat.{mod-one, add-zero}
 use native.Mathlib.Omega.{arith}
 use lib.Bits.{bitAnd, bitOr, bitXor, and-block, or-block, xor-block, and-zero-l, or-zero-l, or-zero-r, xor-zero-l}
 use lib.Bits.{or-add-and, and-le-l, and-le-r}
 use lib.Dec.{lit<}
-use Rattle.bases.specs.Base.{baseOf, Empty, Least, Greatest}
+use lib.ListN.{getD}
+use Rattle.bases.specs.Base.{Word, baseOf, Empty, Least, Greatest}
 use Rattle.bases.proofs.Laws.{first-word, next-words, none-in-zero, greatest-next}
-use Rattle.bases.proofs.Words.{bound-more}
+use Rattle.bases.proofs.Words.{bound-more, first-words, word-at}
+use Rattle.plain.specs.All.{All}
+use Rattle.plain.specs.All.All.{none, more}
 use Rattle.sets.specs.declared.Set.{Set}
 use Rattle.sets.specs.Set.{setOf, Exactly, Proper}
 use Rattle.sets.proofs.Exact.{exactly-as, none-exactly}
@@ -22,6 +25,22 @@ pub set-bound : (s : Set) → Proper s → setOf s < 2 ^ 256
 unfolding setOf
 set-bound s f =
     bound-more 192 _ _ (f .a) (bound-more 128 _ _ (f .b) (bound-more 64 _ _ (f .c) (bound-more 0 _ _ (f .d) (rw no-word (lit< tt)))))
+
+-- ---- its words
+
+pub words-of : (s : Set) → Proper s → All Word (s .a ∷ (s .b ∷ (s .c ∷ (s .d ∷ []))))
+words-of s f = more (f .a) (more (f .b) (more (f .c) (more (f .d) none)))
+
+-- word k is that one of the four
+pub word-of : (s : Set) → Proper s → (k : ℕ) {w : ℕ} (j : ℕ) → k ≡ j → getD (s .a ∷ (s .b ∷ (s .c ∷ (s .d ∷ [])))) j 0 ≡ w
+    → w ≡ setOf s / 2 ^ (k * 64) % 2 ^ 64
+unfolding setOf
+word-of s f k j e v = sym v ∙ ap (λ (i : ℕ). getD (s .a ∷ (s .b ∷ (s .c ∷ (s .d ∷ [])))) i 0) (sym e) ∙ word-at k (words-of s f)
+
+-- one word below them: the last is lost
+pub over-words : (s : Set) → Proper s → (w : ℕ) → w < 2 ^ 64 → setOf (record { a = w; b = s .a; c = s .b; d = s .c }) ≡ (setOf s * 2 ^ 64 + w) % 2 ^ 256
+unfolding setOf baseOf
+over-words s f w h = first-words 4 (more h (words-of s f))
 
 -- ---- which numbers it holds, by those of each word
 

@@ -1,9 +1,8 @@
 // Sets of numbers below 256, in four 64-bit words: of characters, or of positions.
 ghost use mathlib.Core.Path.{_≡_};
-ghost use mathlib.Core.List.{[], _∷_};
 ghost use Prim.Native.Nat.{_+_, _*_, _/_, _%_, _^_, _≤_, _<_};
 ghost use lib.Bits.{bitAnd, bitOr};
-ghost use Rattle.bases.specs.Base.{baseOf, Holds, Empty, Meets, Least, Greatest};
+ghost use Rattle.bases.specs.Base.{Holds, Empty, Meets, Least, Greatest};
 ghost use Rattle.plain.specs.Tells.{Tells};
 ghost use Rattle.sets.specs.Set.{setOf, Exactly};
 
@@ -27,15 +26,32 @@ pub fn none() -> Set
     }
 }
 
-// The set whose first two words these are.
-pub fn two_words(low: u64, high: u64) -> Set
-    ensures { λ r. ⌜ setOf r ≡ baseOf (low ∷ (high ∷ [])) ⌝ }
+// Word k of a set, from 0.
+pub fn word(s: Set, k: usize) -> u64
+    requires { ⌜ k < 4 ⌝ }
+    ensures { λ r. ⌜ r ≡ setOf s / 2 ^ (k * 64) % 2 ^ 64 ⌝ }
+{
+    if k == 0 {
+        return s.a;
+    }
+    if k == 1 {
+        return s.b;
+    }
+    if k == 2 {
+        return s.c;
+    }
+    s.d
+}
+
+// The words of a set one up, over a new first word; the last word is lost.
+pub fn over(s: Set, w: u64) -> Set
+    ensures { λ r. ⌜ setOf r ≡ (setOf s * 2 ^ 64 + w) % 2 ^ 256 ⌝ }
 {
     Set {
-        a: low,
-        b: high,
-        c: 0,
-        d: 0,
+        a: w,
+        b: s.a,
+        c: s.b,
+        d: s.c,
     }
 }
 

@@ -2,6 +2,7 @@
 use mathlib.Core.Path.{_≡_, refl, ap, _∙_}
 use mathlib.Core.List.{List, [], _∷_}
 use Prim.Native.Nat.{ℕ, _+_, _*_, _^_, _<_}
+use native.Mathlib.Nat.{mod-eq-of-lt}
 use native.Mathlib.Omega.{arith}
 use lib.Seq.{sets}
 use Rattle.plain.specs.All.All.{none, more}
@@ -11,7 +12,6 @@ use Rattle.bases.specs.Base.{baseWords, codes}
 use Rattle.bases.proofs.Words.{first-words}
 use Rattle.sets.specs.declared.Set.{Set}
 use Rattle.sets.specs.Set.{setOf, Proper}
-use Rattle.sets.proofs.Exact.{held-under}
 use Rattle.shapes.specs.Shape.{Block, blockSize, blockCount}
 use Rattle.shapes.specs.Lent.{blockOf, blockAt, Put}
 
@@ -29,12 +29,12 @@ of-base {l = l} {u = u} e i = record { base = e i; lower = l; upper = u }
 
 -- a block whose base has as many words as are lent for it
 pub put-carried : (w : List ℕ) (i : ℕ) (s : Set) (c d : ℕ) → Proper s → setOf s < 2 ^ codes → i < blockCount w
-    → Put w i (record { base = setOf s; lower = c; upper = d }) (sets w (i * blockSize) (s .a ∷ (s .b ∷ (c ∷ (d ∷ [])))))
+    → Put w i (record { base = setOf s; lower = c; upper = d }) (sets w (i * blockSize) (s .a ∷ (s .b ∷ (s .c ∷ (s .d ∷ (c ∷ (d ∷ [])))))))
 unfolding setOf
 put-carried w i s c d p h l =
-    let q = put-numbers (put-item blockSize w i (s .a ∷ (s .b ∷ (c ∷ (d ∷ [])))) refl (omega arith)) in
+    let q = put-numbers (put-item blockSize w i (s .a ∷ (s .b ∷ (s .c ∷ (s .d ∷ (c ∷ (d ∷ [])))))) refl (omega arith)) in
     record {
       long = q .long;
-      here = q .here ∙ of-base (first-words baseWords (more (p .a) (more (p .b) (more (p .c) (more (p .d) none)))) (held-under codes h));
+      here = q .here ∙ of-base (first-words baseWords (more (p .a) (more (p .b) (more (p .c) (more (p .d) none)))) ∙ mod-eq-of-lt h);
       kept = q .kept;
     }

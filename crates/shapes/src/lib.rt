@@ -5,8 +5,8 @@ ghost use Prim.Native.Nat.{_/_, _≤_, _<_};
 ghost use Rattle.shapes.specs.Shape.{Small, total, blockCount};
 ghost use Rattle.shapes.specs.Lent.{meant, blockAt, shapeOf, Put};
 
-// The numbers of a block: two words of its base, lower and upper.
-pub const SIZE: usize = 4;
+// The numbers of a block: four words of its base, lower and upper.
+pub const SIZE: usize = 6;
 
 // The blocks that a shape may have.
 pub const MOST: usize = 32;
@@ -26,9 +26,14 @@ pub fn block_at(shape: &[u64], i: usize) -> Block
 {
     let at = i * SIZE;
     Block {
-        base: sets::two_words(shape[at], shape[at + 1]),
-        lower: shape[at + 2],
-        upper: shape[at + 3],
+        base: Set {
+            a: shape[at],
+            b: shape[at + 1],
+            c: shape[at + 2],
+            d: shape[at + 3],
+        },
+        lower: shape[at + 4],
+        upper: shape[at + 5],
     }
 }
 
@@ -41,8 +46,10 @@ pub fn put_block(out: &mut [u64], i: usize, b: Block)
     let at = i * SIZE;
     out[at] = b.base.a;
     out[at + 1] = b.base.b;
-    out[at + 2] = b.lower;
-    out[at + 3] = b.upper;
+    out[at + 2] = b.base.c;
+    out[at + 3] = b.base.d;
+    out[at + 4] = b.lower;
+    out[at + 5] = b.upper;
 }
 
 // The uppers added, where the sum is known to be small.

@@ -45,7 +45,7 @@ fn case(line: &[u8]) {
 // Below, `rest` is a line after its letter: each field follows a blank.
 
 fn check_case(rest: &[u8]) {
-    let mut words = [0u64; 201];
+    let mut words = [0u64; 301];
     let n = read_words(rest, &mut words);
     show::checked(dashed::check_shape(&words[..n]));
 }
@@ -53,7 +53,7 @@ fn check_case(rest: &[u8]) {
 fn fit_case(rest: &[u8]) {
     let mut text = [0u8; 400];
     let k = read_text(first_field(rest), &mut text);
-    let mut words = [0u64; 201];
+    let mut words = [0u64; 301];
     let n = read_words(later_fields(rest), &mut words);
     show::fit(dashed::fits(&words[..n], &text[..k]));
 }
@@ -69,7 +69,7 @@ fn order_case(rest: &[u8]) {
 
 // The first number is the output's length.
 fn bound_case(rest: &[u8], greatest: bool) {
-    let mut words = [0u64; 201];
+    let mut words = [0u64; 301];
     let n = read_words(rest, &mut words);
     if n == 0 {
         return;

@@ -29,7 +29,7 @@ fn case(line: &[u8]) {
     if line.len() == 0 {
         return;
     }
-    let mut row = [0u64; 1200];
+    let mut row = [0u64; 1600];
     let n = read_words(&line[1..], &mut row);
     match line[0] {
         b'B' => book_case(&row[..n]),
@@ -50,7 +50,7 @@ fn book_case(numbers: &[u64]) {
 
 // The blocks are lent to be changed, so they get a row of their own.
 fn book_lists(counts: &[u64], lists: &[u64], work: &mut [u8]) {
-    let mut blocks = [0u64; 1200];
+    let mut blocks = [0u64; 1600];
     let b = copy_numbers(first_list(lists), &mut blocks);
     book_line(
         counts,

@@ -15,8 +15,9 @@ use test_lines::fields::within;
 use test_lines::lines;
 use test_lines::show;
 
+// A line has two digits for each byte of the largest file.
 fn main() {
-    let mut buffer = io::large_buffer();
+    let mut buffer = [0u8; 66000];
     let mut place = lines::start();
     while 0 < place.left {
         place = lines::next(&mut buffer, place);
@@ -38,9 +39,9 @@ fn case(line: &[u8]) {
 fn file_case(rest: &[u8]) {
     let mut length = [0u64; 1];
     read_words(rest, &mut length);
-    let mut file = [0u8; 16400];
+    let mut file = [0u8; 32800];
     let n = read_text(first_field(later_fields(rest)), &mut file);
-    let mut report = [0x5au8; 16500];
+    let mut report = [0x5au8; 32900];
     let k = within(length[0], &report);
     file_line(&file[..n], &mut report[..k]);
 }

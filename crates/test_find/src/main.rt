@@ -36,7 +36,7 @@ fn case(line: &[u8]) {
 fn find_case(rest: &[u8]) {
     let mut mark = [0u8; 400];
     let k = read_text(first_field(rest), &mut mark);
-    let mut words = [0u64; 201];
+    let mut words = [0u64; 301];
     let n = read_words(later_fields(rest), &mut words);
     match dashed::find(&words[..n], &mark[..k]) {
         Sought::Nowhere => show::line(b"nowhere"),

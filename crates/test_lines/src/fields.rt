@@ -3,8 +3,9 @@ ghost use Prim.Native.Nat.{_≤_, _<_};
 ghost use lib.ListN.{length};
 ghost use Rattle.io.specs.Counts.{Counts};
 
-// Room for the numbers of a line: three shapes of 32 blocks, six numbers to a block, and what stands before them.
-pub const NUMBERS: usize = 640;
+// Room for the numbers of a line: three shapes of 32 blocks, or the run and the list of a tray, and what stands before
+// them.
+pub const NUMBERS: usize = 800;
 
 // Where `mark` stands first from the place `from` on, or the end.
 pub fn find(s: &[u8], from: usize, mark: u8) -> usize

@@ -49,9 +49,9 @@ fn narrow_case(numbers: &[u64]) {
     }
     let mut work = [0x5au8; 70000];
     let k = within(numbers[1], &work);
-    let mut out_x = [0xa5a5u64; 200];
+    let mut out_x = [0xa5a5u64; 220];
     let rx = within_numbers(numbers[2], &out_x);
-    let mut out_y = [0xa5a5u64; 200];
+    let mut out_y = [0xa5a5u64; 220];
     let ry = within_numbers(numbers[3], &out_y);
     narrow_line(
         numbers[0],
@@ -97,11 +97,11 @@ fn join_case(numbers: &[u64]) {
     }
     let mut work = [0x5au8; 70000];
     let k = within(numbers[0], &work);
-    let mut out_x = [0xa5a5u64; 200];
+    let mut out_x = [0xa5a5u64; 220];
     let rx = within_numbers(numbers[1], &out_x);
-    let mut out_y = [0xa5a5u64; 200];
+    let mut out_y = [0xa5a5u64; 220];
     let ry = within_numbers(numbers[2], &out_y);
-    let mut out_z = [0xa5a5u64; 200];
+    let mut out_z = [0xa5a5u64; 220];
     let rz = within_numbers(numbers[3], &out_z);
     join_line(
         &numbers[4..],

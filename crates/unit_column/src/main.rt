@@ -4,36 +4,48 @@ use answers::Index;
 use answers::Sought;
 
 fn main() {
-    // Four numbers to a block: two for its base, a bit for each code, then lower and upper.
+    // Six numbers to a block: four for its base, a bit for each code, then lower and upper.
     let line = [
         // T, once
         0u64,
         0x100000,
+        0,
+        0,
         1,
         1,
         // one to three digits
         0x3ff000000000000,
+        0,
+        0,
         0,
         1,
         3,
         // a point, once
         0x400000000000,
         0,
+        0,
+        0,
         1,
         1,
         // two digits
         0x3ff000000000000,
+        0,
+        0,
         0,
         2,
         2,
         // N, once
         0,
         0x4000,
+        0,
+        0,
         1,
         1,
         // m, once
         0,
         0x200000000000,
+        0,
+        0,
         1,
         1,
     ];

@@ -26,18 +26,18 @@ read-sheet-requires c κs = search needs
 enum-known-i : tie.Need-enum-known-i
 enum-known-i c = search needs
 
-add-t20 : tie.Need-add-t20
-add-t20 c = let d = subst (SheetRead mostTexts _ _ _ _ _) (c .before .i .given .1) (c .before .before .before .before .before .before .before .read-sheet .ensures) .1 in omega arith
+add-t21 : tie.Need-add-t21
+add-t21 c = let d = subst (SheetRead mostTexts _ _ _ _ _) (c .before .i .given .1) (c .before .before .before .before .before .before .before .read-sheet .ensures) .1 in omega arith
 
-enum-known-texts : tie.Need-enum-known-texts
-enum-known-texts c = search needs
+enum-known-width : tie.Need-enum-known-width
+enum-known-width c = search needs
 
 -- the sheet, where it is read, and how large it is
-sheet : (c : tie.After-texts) → let a = c .before .before .before .before .before .before .before .before .before .before .before .before .before .before .args in let r = c .before .before .before .before .before .before .read-sheet in let g = c .texts .given .0 in
-    SheetIs mostTexts (a .file .now) (a .counts .now) (a .blocks .now) (r .last .1 .1 .0) (r .last .1 .1 .1 .0) (g .0) (g .1 .0) (g .1 .1 .0)
-sheet c = subst (SheetRead mostTexts _ _ _ _ _) (c .texts .given .1) (c .before .before .before .before .before .before .read-sheet .ensures)
+sheet : (c : tie.After-width) → let a = c .before .before .before .before .before .before .before .before .before .before .before .before .before .before .args in let r = c .before .before .before .before .before .before .read-sheet in let g = c .width .given .0 in
+    SheetIs mostTexts (a .file .now) (a .counts .now) (a .blocks .now) (r .last .1 .1 .0) (r .last .1 .1 .1 .0) (g .0) (g .1 .0) (g .1 .1 .0) (g .1 .1 .1 .0)
+sheet c = subst (SheetRead mostTexts _ _ _ _ _) (c .width .given .1) (c .before .before .before .before .before .before .read-sheet .ensures)
 
-few : (c : tie.After-texts) → (c .texts .given .0 .0 ≤ mostTexts) × (c .texts .given .0 .1 .0 ≤ bookBlocks)
+few : (c : tie.After-width) → (c .width .given .0 .1 .0 ≤ mostTexts) × (c .width .given .0 .1 .1 .0 ≤ bookBlocks)
 few c = let s = sheet c in let f = sheet-few (s .sheet) (s .fits) in let t = f .0 in let b = f .1 in let x = s .texts-many in let y = s .blocks-many in (omega arith, omega arith)
 
 sub-read-last : tie.Need-sub-read-last
@@ -54,22 +54,22 @@ read-last-requires c κs = search needs
 
 -- and what follows it
 last : (c : tie.After-read-last) {r : Last} → c .read-last .result ≡ r → let a = c .before .before .before .before .before .before .before .before .before .before .before .before .before .before .before .before .before .before .args in
-    LastRead (drop (c .before .before .before .before .texts .given .0 .1 .1 .0) (a .file .now)) (a .rules .now) (c .read-last .last .1 .0) r
+    LastRead (drop (c .before .before .before .before .width .given .0 .1 .1 .1 .0) (a .file .now)) (a .rules .now) (c .read-last .last .1 .0) r
 last c {r} e =
     let a = c .before .before .before .before .before .before .before .before .before .before .before .before .before .before .before .before .before .before .args in
-    subst (λ (t : List ℕ). LastRead t (a .rules .now) (c .read-last .last .1 .0) r) (rest-of (a .file .now) (c .before .before .before .before .texts .given .0 .1 .1 .0)) (subst (LastRead _ _ _) e (c .read-last .ensures))
+    subst (λ (t : List ℕ). LastRead t (a .rules .now) (c .read-last .last .1 .0) r) (rest-of (a .file .now) (c .before .before .before .before .width .given .0 .1 .1 .1 .0)) (subst (LastRead _ _ _) e (c .read-last .ensures))
 
 enum-known-i-2 : tie.Need-enum-known-i-2
 enum-known-i-2 c = search needs
 
-add-t30 : tie.Need-add-t30
-add-t30 c = let f = few (c .before .before .before .before .before .before .before .before .before) in let t = f .0 in let n = f .1 in omega arith
-
-add-t32 : tie.Need-add-t32
-add-t32 c = let f = few (c .before .before .before .before .before .before .before .before .before) in let t = f .0 in let n = f .1 in let d = last (c .before .before .before .before .before) (c .before .i2 .given .1) .1 in omega arith
+add-t31 : tie.Need-add-t31
+add-t31 c = let f = few (c .before .before .before .before .before .before .before .before .before) in let t = f .0 in let n = f .1 in omega arith
 
 add-t33 : tie.Need-add-t33
 add-t33 c = let f = few (c .before .before .before .before .before .before .before .before .before) in let t = f .0 in let n = f .1 in let d = last (c .before .before .before .before .before) (c .before .i2 .given .1) .1 in omega arith
+
+add-t34 : tie.Need-add-t34
+add-t34 c = let f = few (c .before .before .before .before .before .before .before .before .before) in let t = f .0 in let n = f .1 in let d = last (c .before .before .before .before .before) (c .before .i2 .given .1) .1 in omega arith
 
 enum-known-k : tie.Need-enum-known-k
 enum-known-k c = search needs
@@ -97,7 +97,7 @@ same-length-5 c = search needs
 returns-3 : tie.Need-returns-3
 returns-3 c =
     let d = last (c .before .before .before .before .before) (c .before .i2 .given .1) in
-    later (c .before .before .before .before .before .before .before .before .before .before .before .before .before .before .before .before .before .before .if1 .left) (here (_, book-stops (c .before .before .before .before .before .before .before .before .before .before .before .before .before .before .before .before .before .before .before .before .before .before .before .args .file .now) _ _ _ _ _ _ _ (sheet (c .before .before .before .before .before .before .before .before .before)) (c .before .i2 .given .0 .0) (d .0), refl))
+    later (c .before .before .before .before .before .before .before .before .before .before .before .before .before .before .before .before .before .before .if1 .left) (here (_, book-stops (c .before .before .before .before .before .before .before .before .before .before .before .before .before .before .before .before .before .before .before .before .before .before .before .args .file .now) _ _ _ _ _ _ _ _ (sheet (c .before .before .before .before .before .before .before .before .before)) (c .before .i2 .given .0 .0) (d .0), refl))
 
 same-length-6 : tie.Need-same-length-6
 same-length-6 c = search needs
@@ -109,7 +109,7 @@ same-length-8 : tie.Need-same-length-8
 same-length-8 c = search needs
 
 returns-4 : tie.Need-returns-4
-returns-4 c = book-is (c .before .before .before .before .before .before .before .before .before .before .before .before .before .before .before .before .before .before .before .before .before .before .before .args .file .now) _ _ _ _ _ _ _ (sheet (c .before .before .before .before .before .before .before .before .before)) _ _ _ (c .before .before .before .before .before .before .before .before .before .before .before .before .before .before .before .before .before .before .if1 .left) (last (c .before .before .before .before .before) (c .before .k .given .1))
+returns-4 c = book-is (c .before .before .before .before .before .before .before .before .before .before .before .before .before .before .before .before .before .before .before .before .before .before .before .args .file .now) _ _ _ _ _ _ _ _ (sheet (c .before .before .before .before .before .before .before .before .before)) _ _ _ (c .before .before .before .before .before .before .before .before .before .before .before .before .before .before .before .before .before .before .if1 .left) (last (c .before .before .before .before .before) (c .before .k .given .1))
 
 pub read-book-spec : {M : Type 1} → statement M
 read-book-spec =
@@ -118,16 +118,16 @@ read-book-spec =
     returns
     read-sheet-requires
     enum-known-i
-    add-t20
-    enum-known-texts
+    add-t21
+    enum-known-width
     sub-read-last
     part-read-last-start
     part-read-last-end
     read-last-requires
     enum-known-i-2
-    add-t30
-    add-t32
+    add-t31
     add-t33
+    add-t34
     enum-known-k
     same-length
     same-length-2

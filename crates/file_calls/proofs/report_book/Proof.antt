@@ -2,7 +2,6 @@
 -- elsewhere the refusal. Assumes nothing.
 use mathlib.Core.Path.{_≡_, refl, subst}
 use native.Mathlib.Omega.{arith}
-use Rattle.plain.proofs.All.{all-of}
 use Rattle.answers.specs.declared.Ran.{Ran}
 use Rattle.answers.specs.Turns.{here}
 use Rattle.file_runs.proofs.Ends.{ComesTo, comes-to, few-numbers}
@@ -36,8 +35,10 @@ enum-known-m-2 c = search needs
 
 -- what the run comes to
 came-to : (c : tie.After-run-book) {r : Ran} → c .run-book .result ≡ r
-    → let a = c .before .before .before .before .before .before .before .before .before .args in ComesTo (a .counts .now) (a .blocks .now) (a .rules .now) (a .work .now) (c .run-book .last .1 .0) (c .run-book .last .1 .1 .1 .0) r
-came-to c e = subst (ComesTo _ _ _ _ _ _) e (comes-to _ _ _ _ _ _ (c .run-book .result) (c .run-book .ensures))
+    → let a = c .before .before .before .before .before .before .before .before .before .args in ComesTo (a .width) (a .counts .now) (a .blocks .now) (a .rules .now) (a .work .now) (c .run-book .last .1 .0) (c .run-book .last .1 .1 .1 .0) r
+came-to c e =
+    let s = c .before .before .before .before .before .before .before .before .before in
+    subst (ComesTo (s .args .width) _ _ _ _ _ _) e (comes-to (s .args .width) _ _ _ _ _ _ (c .run-book .result) (s .pre) (c .run-book .ensures))
 
 -- the final shapes can be written
 write-stable-requires : tie.Need-write-stable-requires
@@ -46,8 +47,7 @@ write-stable-requires c κs =
     let p = came-to q (c .before .before .before .m2 .given .1) in
     let few = few-numbers _ _ _ _ (p .0) in
     let e = q .run-book .kept .1 .0 in
-    let blocks = c .before .before .before .before .before .before .before .slice-known4 in
-    (q .before .before .before .if1 .left, (p .0 .counted .few-texts, (omega arith, p .3 (all-of _ 0 (λ i h. blocks .given i .fits)))))
+    (q .before .before .before .if1 .left, (p .0 .counted .few-texts, (omega arith, p .3)))
 
 same-length-2 : tie.Need-same-length-2
 same-length-2 c = search needs

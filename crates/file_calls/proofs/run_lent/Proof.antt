@@ -61,7 +61,7 @@ slice-aggregate-report-book-3 : tie.Need-slice-aggregate-report-book-3
 slice-aggregate-report-book-3 c = sym (length-take-le _ _ (array-share-prefix-rules (c .before)))
 
 report-book-requires : tie.Need-report-book-requires
-report-book-requires c κs = search needs
+report-book-requires c κs = book-read (c .before .before .before .before .before .before .before .before) .said
 
 returns : tie.Need-returns
 returns c =
@@ -78,7 +78,7 @@ returns-2 : tie.Need-returns-2
 returns-2 c =
     let sizes = c .before .before .before .before .before .before .before .before .before .before .before .before .before .before in
     let ran = c .before .before .before .before .before .report-book in
-    (file-of _ _ _ _ _ (lent sizes .args .report .now) (ran .last .1 .1 .1 .0) _ (ran .result) (book-read sizes) (ran .ensures .0), ran .ensures .1)
+    (file-of _ _ _ _ _ (lent sizes .args .report .now) (ran .last .1 .1 .1 .1 .0) _ (ran .result) (book-read sizes) (ran .ensures .0), ran .ensures .1)
 
 pub run-lent-spec : {M : Type 1} → statement M
 run-lent-spec =

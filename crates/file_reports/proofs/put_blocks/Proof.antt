@@ -15,10 +15,10 @@ use Rattle.file_reports.proofs.put_blocks.Statement.{statement}
 use Rattle.file_reports.proofs.put_blocks.Tie as tie
 
 abbrev Inv-loop : tie.InvT-loop
-Inv-loop blocks out₀ at n end₀ i₀ out end i = (n ≡ blockCount blocks) × (i ≤ n) × (length out ≡ length out₀) × Wrote out₀ at (joined (map blockLine (take i (shapeOf blocks)))) out end × (end ≤ at + i * blockRoom)
+Inv-loop width blocks out₀ at n end₀ i₀ out end i = (n ≡ blockCount blocks) × (i ≤ n) × (length out ≡ length out₀) × Wrote out₀ at (joined (map (blockLine width) (take i (shapeOf blocks)))) out end × (end ≤ at + i * blockRoom)
 
 abbrev μ-loop : tie.MeasureT-loop
-μ-loop blocks out₀ at n end₀ i₀ out end i = n - i
+μ-loop width blocks out₀ at n end₀ i₀ out end i = n - i
 
 loop-holds : tie.Need-loop-holds Inv-loop μ-loop
 unfolding joined
@@ -35,7 +35,7 @@ put-block-requires c κs =
     let k = l .inv .2 in
     let m = l .inv .4 in
     let room = c .before .before .before .before .before .before .pre .0 in
-    (omega arith, subst RightBlock (sym (c .before .block-at .ensures .0)) (right-at (c .before .before .before .before .before .before .args .blocks .now) (l .i) (omega arith) (c .before .before .before .before .before .before .pre .1)))
+    (omega arith, subst (RightBlock (c .before .before .before .before .before .before .args .width)) (sym (c .before .block-at .ensures .0)) (right-at (c .before .before .before .before .before .before .args .blocks .now) (l .i) (omega arith) (c .before .before .before .before .before .before .pre .1)))
 
 add-i : tie.Need-add-i Inv-loop μ-loop
 add-i c = let h = c .before .before .before .before .before .loop-test .taken in omega arith
@@ -54,8 +54,8 @@ loop-again c =
     let r = put .ensures .1 in (
       l .inv .0,
       omega arith,
-      put .kept .1 .0 ∙ l .inv .2,
-      put-as _ _ _ _ _ _ (block-more (a .blocks .now) (l .i) (meant (c .before .before .before .before .block-at .result)) here (c .before .before .before .before .block-at .ensures .0)) (put-then (a .out .now) (a .at) _ (l .out) (l .end) _ (put .last .1 .0) (put .result) (l .inv .3) (put .ensures .0)),
+      put .kept .1 .1 .0 ∙ l .inv .2,
+      put-as _ _ _ _ _ _ (block-more (a .width) (a .blocks .now) (l .i) (meant (c .before .before .before .before .block-at .result)) here (c .before .before .before .before .block-at .ensures .0)) (put-then (a .out .now) (a .at) _ (l .out) (l .end) _ (put .last .1 .1 .0) (put .result) (l .inv .3) (put .ensures .0)),
       omega arith,
     )
 
@@ -71,7 +71,7 @@ returns c =
     let i = l .inv .1 in
     let m = l .inv .4 in
     let s = shape-length (a .blocks .now) in
-    (put-as _ _ _ _ _ _ (ap (λ (t : List Block). joined (map blockLine t)) (take-all (l .i) (shapeOf (a .blocks .now)) (omega arith))) (l .inv .3), omega arith)
+    (put-as _ _ _ _ _ _ (ap (λ (t : List Block). joined (map (blockLine (a .width)) t)) (take-all (l .i) (shapeOf (a .blocks .now)) (omega arith))) (l .inv .3), omega arith)
 
 pub put-blocks-spec : {M : Type 1} → statement M
 put-blocks-spec =

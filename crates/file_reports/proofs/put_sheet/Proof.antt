@@ -17,11 +17,8 @@ put-head-requires c κs = search needs
 put-counts-requires : tie.Need-put-counts-requires
 put-counts-requires c κs = search needs
 
-slice-aggregate-put-head-2 : tie.Need-slice-aggregate-put-head-2
-slice-aggregate-put-head-2 c = search needs
-
-put-head-requires-2 : tie.Need-put-head-requires-2
-put-head-requires-2 c κs = search needs
+put-heading-requires : tie.Need-put-heading-requires
+put-heading-requires c κs = search needs
 
 put-blocks-requires : tie.Need-put-blocks-requires
 put-blocks-requires c κs = search needs
@@ -31,16 +28,16 @@ same-length c = search needs
 
 returns : tie.Need-returns
 returns c =
-    let a = c .before .before .before .before .before .before .before .before .before .before .before .before .before .before .before .before .before .before .before .before .before .args in
-    let one = c .before .before .before .before .before .before .before .before .before .before .before .before .before .before .before .put-head in
-    let two = c .before .before .before .before .before .before .before .before .before .before .before .put-counts in
-    let three = c .before .before .before .before .before .before .put-head2 in
+    let a = c .before .before .before .before .before .before .before .before .before .before .before .before .before .before .before .before .before .before .before .before .args in
+    let one = c .before .before .before .before .before .before .before .before .before .before .before .before .before .before .put-head in
+    let two = c .before .before .before .before .before .before .before .before .before .before .put-counts in
+    let three = c .before .before .before .before .before .before .put-heading in
     let four = c .before .before .put-blocks in
     let m₁ = one .ensures .1 in
     let m₂ = two .ensures .1 in
     let m₃ = three .ensures .1 in
     let m₄ = four .ensures .1 in
-    (sheet-put (sheetOf (a .counts .now) (a .blocks .now)) _ _ (a .out .now) (a .at) _ _ _ _ _ _ _ _ refl (sym (shape-length (a .blocks .now))) (one .ensures .0) (two .ensures .0) (three .ensures .0) (four .ensures .0), omega arith)
+    (sheet-put (sheetOf (a .width) (a .counts .now) (a .blocks .now)) _ _ (a .out .now) (a .at) _ _ _ _ _ _ _ _ refl (sym (shape-length (a .blocks .now))) (one .ensures .0) (two .ensures .0) (three .ensures .0) (four .ensures .0), omega arith)
 
 pub put-sheet-spec : {M : Type 1} → statement M
 put-sheet-spec =
@@ -49,8 +46,7 @@ put-sheet-spec =
     slice-aggregate-put-head
     put-head-requires
     put-counts-requires
-    slice-aggregate-put-head-2
-    put-head-requires-2
+    put-heading-requires
     put-blocks-requires
     same-length
     returns)

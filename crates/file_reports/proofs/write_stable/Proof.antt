@@ -31,7 +31,7 @@ returns c =
     let blocks = c .before .before .before .before .before .before .before .before .before .before .before .before .pre .1 .1 .0 in
     let m₁ = one .ensures .1 in
     let m₂ = two .ensures .1 in
-    reported (stable (sheetOf (a .counts .now) (a .blocks .now)) (a .count)) _ _ _ room (omega arith) (put-then (a .out .now) 0 _ _ _ _ _ _ (one .ensures .0) (two .ensures .0))
+    reported (stable (sheetOf (a .width) (a .counts .now) (a .blocks .now)) (a .count)) _ _ _ room (omega arith) (put-then (a .out .now) 0 _ _ _ _ _ _ (one .ensures .0) (two .ensures .0))
 
 pub write-stable-spec : {M : Type 1} → statement M
 write-stable-spec =

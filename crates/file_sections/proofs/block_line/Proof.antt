@@ -3,6 +3,7 @@ use mathlib.Core.Path.{subst}
 use native.Mathlib.Omega.{arith}
 use Rattle.shapes.specs.Lent.{meant}
 use Rattle.file_lines.specs.Lines.{BlockRead}
+use Rattle.file_lines.proofs.Read.{said-small}
 use Rattle.file_sections.proofs.Stored.{put-block}
 use borrow.Author.Needs.{needs}
 use Rattle.file_sections.proofs.block_line.Statement.{statement}
@@ -19,19 +20,19 @@ enum-known-b c = search needs
 
 put-block-requires : tie.Need-put-block-requires
 put-block-requires c κs =
-    let read = subst (BlockRead _) (c .before .before .b .given .1) (c .before .before .before .before .read-block .ensures) in
+    let read = subst (BlockRead _ _) (c .before .before .b .given .1) (c .before .before .before .before .read-block .ensures) in
     let room = c .before .before .before .before .before .before .before .pre in
-    (omega arith, read .0 .base)
+    (omega arith, said-small (c .before .before .before .before .before .before .before .args .width) (read .0 .base))
 
 returns : tie.Need-returns
-returns c = λ b h e. subst (BlockRead _) (c .enum-told .given .1) (c .before .before .read-block .ensures) b h e
+returns c = λ b h e. subst (BlockRead _ _) (c .enum-told .given .1) (c .before .before .read-block .ensures) b h e
 
 same-length : tie.Need-same-length
 same-length c = search needs
 
 returns-2 : tie.Need-returns-2
 returns-2 c =
-    let read = subst (BlockRead _) (c .before .before .before .before .before .b .given .1) (c .before .before .before .before .before .before .before .read-block .ensures) in
+    let read = subst (BlockRead _ _) (c .before .before .before .before .before .b .given .1) (c .before .before .before .before .before .before .before .read-block .ensures) in
     record { item = meant (c .before .before .before .before .before .b .given .0 .0); says = (read .0, read .1); stored = put-block (c .before .before .put-block .ensures) (λ q. c .slice-known2 .given q .fits) }
 
 pub block-line-spec : {M : Type 1} → statement M

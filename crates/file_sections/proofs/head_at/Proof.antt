@@ -27,10 +27,10 @@ found c = subst (FoundIn 10 _) (c .i .given .1) (c .before .before .find .ensure
 
 -- which counts are right, and a count's line
 abbrev Few : tie.Start → ℕ → Type 0
-Few s n = n ≤ s .args .section .most
+Few s n = n ≤ s .args .most
 
 abbrev head : tie.Start → ℕ → List ℕ
-head s = headLine (wordOf (s .args .section .heading))
+head s = headLine (wordOf (s .args .heading))
 
 slice-aggregate-read-heading : tie.Need-slice-aggregate-read-heading
 slice-aggregate-read-heading c = let h = found (c .before .before) .within in sym (length-take-le (c .before .before .i .given .0 .0) (c .before .before .before .before .before .before .args .bytes .now) (omega arith))
@@ -44,8 +44,8 @@ enum-told-2 c = search needs
 enum-known-n : tie.Need-enum-known-n
 enum-known-n c = search needs
 
-add-t13 : tie.Need-add-t13
-add-t13 c = let h = found (c .before .before .before .before .before .before) .within in omega arith
+add-t12 : tie.Need-add-t12
+add-t12 c = let h = found (c .before .before .before .before .before .before) .within in omega arith
 
 returns : tie.Need-returns
 returns c = leads-missing 10 (Few (c .before .before .before .before)) (head (c .before .before .before .before)) (c .before .before .before .before .args .bytes .now) (subst (FoundIn 10 _) (c .enum-told .given .1) (c .before .before .find .ensures))
@@ -53,7 +53,7 @@ returns c = leads-missing 10 (Few (c .before .before .before .before)) (head (c 
 returns-2 : tie.Need-returns-2
 returns-2 c =
     let s = c .before .before .before .before .before .before .before .before .before in
-    leads-none 10 (Few s) (head s) (s .args .bytes .now) (λ n h. without-head (s .args .section .heading) n) _ (found (c .before .before .before .before .before)) (subst (HeadRead _ _ _) (c .enum-told2 .given .1) (c .before .before .read-heading .ensures))
+    leads-none 10 (Few s) (head s) (s .args .bytes .now) (λ n h. without-head (s .args .heading) n) _ (found (c .before .before .before .before .before)) (subst (HeadRead _ _ _) (c .enum-told2 .given .1) (c .before .before .read-heading .ensures))
 
 returns-3 : tie.Need-returns-3
 returns-3 c =
@@ -71,7 +71,7 @@ head-at-spec =
     read-heading-requires
     enum-told-2
     enum-known-n
-    add-t13
+    add-t12
     returns
     returns-2
     returns-3)

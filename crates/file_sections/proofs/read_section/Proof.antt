@@ -9,10 +9,9 @@ use Rattle.file_lines.specs.Grammar.{headLine, wordOf, sizeOf}
 use Rattle.file_lines.specs.Lines.{Opens}
 use Rattle.file_lines.proofs.Read.{rest-of}
 use Rattle.files.specs.Departs.{Departs}
-use Rattle.files.proofs.Departs.{head-departs}
 use Rattle.file_sections.specs.declared.Lines.{Lines}
 use Rattle.file_sections.specs.Parts.{HeadAt, LinesRead}
-use Rattle.file_sections.proofs.Reading.{section-is, section-stops}
+use Rattle.file_sections.proofs.Reading.{section-is, section-stops, section-unheaded}
 use borrow.Author.Needs.{needs}
 use Rattle.file_sections.proofs.read_section.Statement.{statement}
 use Rattle.file_sections.proofs.read_section.Tie as tie
@@ -27,9 +26,9 @@ enum-known-count : tie.Need-enum-known-count
 enum-known-count c = search needs
 
 -- the count's line
-head : (c : tie.After-count) → let s = c .before .before .before .before .before .args .section in
-    Opens 10 (λ (k : ℕ). k ≤ s .most) (headLine (wordOf (s .heading))) (c .before .before .before .before .before .args .bytes .now) (c .count .given .0 .0) (c .count .given .0 .1 .0)
-head c = subst (HeadAt (c .before .before .before .before .before .args .section) (c .before .before .before .before .before .args .bytes .now)) (c .count .given .1) (c .before .before .head-at .ensures)
+head : (c : tie.After-count) → let a = c .before .before .before .before .before .args in
+    Opens 10 (λ (k : ℕ). k ≤ a .most) (headLine (wordOf (a .heading))) (a .bytes .now) (c .count .given .0 .0) (c .count .given .0 .1 .0)
+head c = let a = c .before .before .before .before .before .args in subst (HeadAt (a .heading) (a .most) (a .bytes .now)) (c .count .given .1) (c .before .before .head-at .ensures)
 
 sub-read-lines : tie.Need-sub-read-lines
 sub-read-lines c = head (c .before) .within
@@ -42,25 +41,25 @@ part-read-lines-end c = search needs
 
 read-lines-requires : tie.Need-read-lines-requires
 read-lines-requires c κs =
-    let s = c .before .before .before .before .before .before .before .before .args .section in
+    let s = c .before .before .before .before .before .before .before .before .args in
     let few : c .before .before .before .count .given .0 .0 * sizeOf (s .heading) ≤ s .most * sizeOf (s .heading) = mul-le-mul-right (sizeOf (s .heading)) (head (c .before .before .before) .right) in
     let room = c .before .before .before .before .before .before .before .before .pre .1 in
     omega arith
 
 -- what its lines are
 lines : (c : tie.After-read-lines) {r : Lines} → c .read-lines .result ≡ r → let a = c .before .before .before .before .before .before .before .before .before .args in let n = c .before .before .before .before .count .given .0 in
-    LinesRead (a .section .heading) (n .0) (drop (n .1 .0) (a .bytes .now)) (a .out .now) (c .read-lines .last .1 .1 .1 .0) r
+    LinesRead (a .heading) (n .0) (drop (n .1 .0) (a .bytes .now)) (a .out .now) (c .read-lines .last .1 .1 .1 .0) r
 lines c {r} e =
     let a = c .before .before .before .before .before .before .before .before .before .args in
     let n = c .before .before .before .before .count .given .0 in
-    subst (λ (t : List ℕ). LinesRead (a .section .heading) (n .0) t (a .out .now) (c .read-lines .last .1 .1 .1 .0) r) (rest-of (a .bytes .now) (n .1 .0))
-    (subst (LinesRead (a .section .heading) (n .0) _ _ _) e (c .read-lines .ensures))
+    subst (λ (t : List ℕ). LinesRead (a .heading) (n .0) t (a .out .now) (c .read-lines .last .1 .1 .1 .0) r) (rest-of (a .bytes .now) (n .1 .0))
+    (subst (LinesRead (a .heading) (n .0) _ _ _) e (c .read-lines .ensures))
 
 enum-known-i : tie.Need-enum-known-i
 enum-known-i c = search needs
 
-add-t20 : tie.Need-add-t20
-add-t20 c =
+add-t21 : tie.Need-add-t21
+add-t21 c =
     let few = head (c .before .before .before .before .before .before .before .before .before) .right in
     let most = c .before .before .before .before .before .before .before .before .before .before .before .before .before .before .pre .0 in
     let d = lines (c .before .before .before .before .before) (c .before .i .given .1) .1 in
@@ -69,8 +68,8 @@ add-t20 c =
 enum-known-k : tie.Need-enum-known-k
 enum-known-k c = search needs
 
-add-t21 : tie.Need-add-t21
-add-t21 c =
+add-t22 : tie.Need-add-t22
+add-t22 c =
     let l = lines (c .before .before .before .before .before) (c .before .k .given .1) .within in
     let a = head (c .before .before .before .before .before .before .before .before .before) .within in
     let f = length-drop (c .before .before .before .before .before .before .before .before .before .count .given .0 .1 .0) (c .before .before .before .before .before .before .before .before .before .before .before .before .before .before .args .bytes .now) in
@@ -79,8 +78,8 @@ add-t21 c =
 returns : tie.Need-returns
 returns c =
     let a = c .before .before .before .before .before .args in
-    let none = subst (HeadAt (a .section) (a .bytes .now)) (c .enum-told .given .1) (c .before .before .head-at .ensures) in
-    (λ G. head-departs (a .section) G (a .bytes .now) none, omega arith)
+    let none = subst (HeadAt (a .heading) (a .most) (a .bytes .now)) (c .enum-told .given .1) (c .before .before .head-at .ensures) in
+    (section-unheaded (a .heading) (a .most) (a .bytes .now) none, omega arith)
 
 same-length : tie.Need-same-length
 same-length c = search needs
@@ -93,13 +92,16 @@ returns-2 c =
     let few = head (c .before .before .before .before .before .before .before .before .before) .right in
     let least = d .1 in
     let line : i + 2 ≡ i + 1 + 1 = omega arith in
-    (λ G. subst (Departs (a .section ∷ G) (a .bytes .now)) line (section-stops (a .section) (a .bytes .now) _ _ (head (c .before .before .before .before .before .before .before .before .before)) i (d .0) least G), omega arith)
+    let stops = section-stops (a .heading) (a .most) (a .bytes .now) _ _ (head (c .before .before .before .before .before .before .before .before .before)) i (d .0) least in
+    (λ s G e h. subst (Departs (s ∷ G) (a .bytes .now)) line (stops s G e h), omega arith)
 
 same-length-2 : tie.Need-same-length-2
 same-length-2 c = search needs
 
 returns-3 : tie.Need-returns-3
-returns-3 c = section-is (c .before .before .before .before .before .before .before .before .before .before .before .before .before .before .args .section) (c .before .before .before .before .before .before .before .before .before .before .before .before .before .before .args .bytes .now) _ _ (head (c .before .before .before .before .before .before .before .before .before)) _ _ _ (lines (c .before .before .before .before .before) (c .before .k .given .1))
+returns-3 c =
+    let a = c .before .before .before .before .before .before .before .before .before .before .before .before .before .before .args in
+    section-is (a .heading) (a .most) (a .bytes .now) _ _ (head (c .before .before .before .before .before .before .before .before .before)) _ _ _ (lines (c .before .before .before .before .before) (c .before .k .given .1))
 
 pub read-section-spec : {M : Type 1} → statement M
 read-section-spec =
@@ -113,9 +115,9 @@ read-section-spec =
     part-read-lines-end
     read-lines-requires
     enum-known-i
-    add-t20
-    enum-known-k
     add-t21
+    enum-known-k
+    add-t22
     returns
     same-length
     returns-2

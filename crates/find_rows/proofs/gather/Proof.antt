@@ -10,12 +10,12 @@ use Rattle.sets.specs.Set.{setOf}
 use Rattle.sets.proofs.Words.{lowest-bit}
 use Rattle.rows.specs.Row.{rowIn}
 use Rattle.fit_tables.proofs.Lowest.{fewer-left}
-use Rattle.fit_tables.proofs.Table.{Picking, picking-none, picking-more, picking-done}
+use Rattle.fit_tables.proofs.Table.{Picking, picking-none, picking-more, picking-done, picked-alone}
 use Rattle.find_rows.proofs.gather.Statement.{statement}
 use Rattle.find_rows.proofs.gather.Tie as tie
 
 abbrev Inv-loop : tie.InvT-loop
-Inv-loop rows w left₀ r₀ left r = (left ≤ w) × Picking (rowIn rows) w left (setOf r)
+Inv-loop rows w left₀ r₀ left r = (left ≤ w) × Picking (rowIn rows) w (setOf r₀) left (setOf r)
 
 abbrev μ-loop : tie.MeasureT-loop
 μ-loop rows w left₀ r₀ left r = left
@@ -24,7 +24,7 @@ none-requires : tie.Need-none-requires Inv-loop μ-loop
 none-requires c κs = search needs
 
 loop-holds : tie.Need-loop-holds Inv-loop μ-loop
-loop-holds c = (search needs, picking-none _ _ (c .none .ensures))
+loop-holds c = (search needs, picking-none _ _ _)
 
 -- the lowest number left
 found : (c : tie.In-loop Inv-loop μ-loop) → Least (c .before .loop .left) (trailingZeros 64 (c .before .loop .left)) × (trailingZeros 64 (c .before .loop .left) < 64)
@@ -50,10 +50,10 @@ loop-again c =
     let t = c .before .before .before in
     let fewer = fewer-left _ (t .loop-test .taken) in
     let plus = c .either .ensures ∙ ap (bitOr (setOf (t .before .loop .r))) (c .before .row-at .ensures) in
-    (omega arith, picking-more _ _ (found t .0) plus (t .before .loop .inv .1))
+    (omega arith, picking-more _ _ _ (found t .0) plus (t .before .loop .inv .1))
 
 returns : tie.Need-returns Inv-loop μ-loop
-returns c = picking-done _ _ (c .loop-test .left) (c .before .loop .inv .1)
+returns c = picked-alone (c .before .before .none .ensures) (picking-done _ _ _ (c .loop-test .left) (c .before .loop .inv .1))
 
 pub gather-spec : {M : Type 1} → statement M
 gather-spec =

@@ -4,12 +4,9 @@ use Prim.Native.Nat.{_%_}
 use native.Mathlib.Omega.{arith}
 use borrow.Author.Needs.{needs}
 use Rattle.sets.proofs.Exact.{exactly-as, one-shl}
-use Rattle.fit_tables.proofs.Table.{placed-other, placed-more, seen-other, seen-more}
+use Rattle.fit_tables.proofs.Table.{placed-more, seen-more}
 use Rattle.fit_tables.proofs.add_place.Statement.{statement}
 use Rattle.fit_tables.proofs.add_place.Tie as tie
-
-returns : tie.Need-returns
-returns c = (λ t e g. placed-other t _ _ g (omega arith), λ t e s. seen-other t _ _ s (omega arith))
 
 mul-at : tie.Need-mul-at
 mul-at c = search needs
@@ -41,9 +38,9 @@ either-requires c κs = search needs
 same-length : tie.Need-same-length
 same-length c = search needs
 
-returns-2 : tie.Need-returns-2
-returns-2 c =
-    let s = c .before .before .before .before .before in (
+returns : tie.Need-returns
+returns c =
+    let s = c .before .before .before .before in (
       λ t e g. placed-more t _ _ g (s .args .c) _ _ (omega arith) (omega arith) e refl (one-shl (s .args .p % 64) (omega arith)),
       λ t e g. seen-more t _ _ g (exactly-as (λ q h. h ∙ sym e) (λ q h. h ∙ e) (c .before .single .ensures)) (c .either .ensures),
     )
@@ -51,5 +48,5 @@ returns-2 c =
 pub add-place-spec : {M : Type 1} → statement M
 add-place-spec =
     tie.close
-    (tie.spec returns mul-at add-at mul-table slice-read-table shl-table mul-table-2 slice-write-table
-    single-requires either-requires same-length returns-2)
+    (tie.spec mul-at add-at mul-table slice-read-table shl-table mul-table-2 slice-write-table
+    single-requires either-requires same-length returns)

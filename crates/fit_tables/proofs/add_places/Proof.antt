@@ -33,7 +33,7 @@ add-place-requires c κs =
     let l = c .before .before .before in
     let room = l .before .before .before .before .pre .1 .0 in
     let same = l .loop .inv .1 in
-    omega arith
+    (omega (arith, c .shared-slice-known2 .given (l .loop .p)), omega arith)
 
 add-p : tie.Need-add-p Inv-loop μ-loop
 add-p c = omega arith

@@ -15,21 +15,18 @@ use Rattle.fit_tables.proofs.of_word.Statement.{statement}
 use Rattle.fit_tables.proofs.of_word.Tie as tie
 
 abbrev Inv-loop : tie.InvT-loop
-Inv-loop word from table left₀ r₀ left r = (left ≤ word) × Picking (λ e. rowOf table (from + e)) word left (setOf r)
+Inv-loop word from table left₀ r₀ left r = (left ≤ word) × Picking (λ e. rowOf table (from + e)) word (setOf r₀) left (setOf r)
 
 abbrev μ-loop : tie.MeasureT-loop
 μ-loop word from table left₀ r₀ left r = left
 
-none-requires : tie.Need-none-requires Inv-loop μ-loop
-none-requires c κs = search needs
-
 loop-holds : tie.Need-loop-holds Inv-loop μ-loop
-loop-holds c = (search needs, picking-none _ _ (c .none .ensures))
+loop-holds c = (search needs, picking-none _ _ _)
 
 -- the lowest number left
 found : (c : tie.In-loop Inv-loop μ-loop)
     → Least (c .before .loop .left) (trailingZeros 64 (c .before .loop .left)) × (trailingZeros 64 (c .before .loop .left) < 64)
-found c = lowest-bit _ (let w = c .before .before .before .before .fits .word .fits in omega arith) (c .loop-test .taken)
+found c = lowest-bit _ (let w = c .before .before .before .fits .word .fits in omega arith) (c .loop-test .taken)
 
 cast-e : tie.Need-cast-e Inv-loop μ-loop
 cast-e c = let l = found c .1 in omega arith
@@ -38,7 +35,7 @@ add-row-of : tie.Need-add-row-of Inv-loop μ-loop
 add-row-of c = let l = found c .1 in omega arith
 
 row-of-requires : tie.Need-row-of-requires Inv-loop μ-loop
-row-of-requires c κs = let l = found c .1 in (c .before .before .before .before .pre .1, omega arith)
+row-of-requires c κs = let l = found c .1 in (c .before .before .before .pre .1, omega arith)
 
 either-requires : tie.Need-either-requires Inv-loop μ-loop
 either-requires c κs = search needs
@@ -54,12 +51,12 @@ loop-again c =
     let t = c .before .before in
     let fewer = fewer-left _ (t .loop-test .taken) in
     let added = c .either .ensures ∙ ap (bitOr (setOf (t .before .loop .r))) (c .before .row-of .ensures) in
-    (omega arith, picking-more _ _ (found t .0) added (t .before .loop .inv .1))
+    (omega arith, picking-more _ _ _ (found t .0) added (t .before .loop .inv .1))
 
 returns : tie.Need-returns Inv-loop μ-loop
-returns c = picking-done _ _ (c .loop-test .left) (c .before .loop .inv .1)
+returns c = picking-done _ _ _ (c .loop-test .left) (c .before .loop .inv .1)
 
 pub of-word-spec : {M : Type 1} → statement M
 of-word-spec =
     tie.close
-    (tie.spec Inv-loop μ-loop none-requires loop-holds cast-e add-row-of row-of-requires either-requires sub-left loop-less loop-again returns)
+    (tie.spec Inv-loop μ-loop loop-holds cast-e add-row-of row-of-requires either-requires sub-left loop-less loop-again returns)

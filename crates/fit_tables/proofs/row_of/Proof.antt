@@ -11,19 +11,17 @@ use Rattle.fit_tables.proofs.Table.{short-row}
 use Rattle.fit_tables.proofs.row_of.Statement.{statement}
 use Rattle.fit_tables.proofs.row_of.Tie as tie
 
-mul-two-words : tie.Need-mul-two-words
-mul-two-words c = search needs
+mul-t5 : tie.Need-mul-t5
+mul-t5 c = search needs
 
-shared-slice-read-two-words : tie.Need-shared-slice-read-two-words
-shared-slice-read-two-words c = ⊎-elim (λ e. omega arith) (λ e. omega arith) (c .before .before .before .pre .0)
-
-two-words-requires : tie.Need-two-words-requires
-two-words-requires c κs = search needs
+shared-slice-read-t7 : tie.Need-shared-slice-read-t7
+shared-slice-read-t7 c = ⊎-elim (λ e. omega arith) (λ e. omega arith) (c .before .before .pre .0)
 
 returns : tie.Need-returns
+unfolding setOf
 returns c =
-    let a = c .before .before .before .before .args in
-    short-row (a .table .now) (a .c) (c .before .before .if1 .taken) (c .two-words .ensures)
+    let a = c .before .before .args in
+    short-row (a .table .now) (a .c) (c .before .if1 .taken)
 
 mul-t3 : tie.Need-mul-t3
 mul-t3 c = search needs
@@ -32,8 +30,8 @@ shared-slice-read-t9 : tie.Need-shared-slice-read-t9
 shared-slice-read-t9 c = search needs
 
 -- where a row has more than one word, it has four
-four : (c : tie.Else1) → 4 * codes ≤ length (c .before .before .args .table .now)
-four c = ⊎-elim (λ e. omega arith) (λ e. omega arith) (c .before .before .pre .0)
+four : (c : tie.Else1) → 4 * codes ≤ length (c .before .args .table .now)
+four c = ⊎-elim (λ e. omega arith) (λ e. omega arith) (c .before .pre .0)
 
 add-t10 : tie.Need-add-t10
 add-t10 c = search needs
@@ -69,5 +67,5 @@ returns-2 c = refl
 pub row-of-spec : {M : Type 1} → statement M
 row-of-spec =
     tie.close
-    (tie.spec mul-two-words shared-slice-read-two-words two-words-requires returns mul-t3 shared-slice-read-t9
+    (tie.spec mul-t5 shared-slice-read-t7 returns mul-t3 shared-slice-read-t9
     add-t10 mul-t11 shared-slice-read-t13 add-t14 mul-t15 shared-slice-read-t17 add-t18 mul-t19 shared-slice-read-t21 returns-2)

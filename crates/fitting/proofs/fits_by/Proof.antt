@@ -7,7 +7,7 @@ use borrow.Author.Needs.{needs, zero≤}
 use lib.ListN.{drop}
 use Rattle.bases.specs.Base.{Holds, codes}
 use Rattle.sets.specs.Set.{setOf}
-use Rattle.sets.proofs.Exact.{both-exactly, held-under}
+use Rattle.sets.proofs.Exact.{held-under}
 use Rattle.shapes.specs.Shape.{Block, Sound, blockCount}
 use Rattle.shapes.specs.Lent.{shapeOf, meant}
 use Rattle.shapes.proofs.Lent.{shape-from, none-left, block-sound}
@@ -44,15 +44,12 @@ block-at-requires c κs = omega arith
 both-requires : tie.Need-both-requires Inv-loop μ-loop
 both-requires c κs = search needs
 
--- a base of two words holds no byte above 127
+-- a base holds only characters that there are
 low : (c : tie.After-block-at Inv-loop μ-loop) → (e : ℕ) → Holds (setOf (c .block-at .result .base)) e → e < codes
 low c = held-under codes (c .block-at .ensures .1)
 
 places-requires : tie.Need-places-requires Inv-loop μ-loop
-places-requires c κs =
-    let b = c .before in
-    let s = b .before .before .before .before .before .before .before in
-    (λ e h. low b e (both-exactly (setOf (b .block-at .result .base)) _ (c .both .ensures) .so e h .0), s .pre .1 .1 .0)
+places-requires c κs = c .before .before .before .before .before .before .before .before .pre .1 .1 .0
 
 row-before-requires : tie.Need-row-before-requires Inv-loop μ-loop
 row-before-requires c κs =

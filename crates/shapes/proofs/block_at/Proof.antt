@@ -1,78 +1,95 @@
--- `shapes::block_at`: two words are the base, then lower and upper. Assumes nothing.
-use mathlib.Core.Path.{sym, subst}
-use Prim.Native.Nat.{ℕ, _^_, _<_}
+-- `shapes::block_at`: the words of the base, then lower and upper. Assumes nothing.
+use mathlib.Core.Path.{refl}
 use native.Mathlib.Numerals.{towards-suc}
 use Rattle.plain.specs.All.All.{none, more}
-use Rattle.bases.specs.Base.{codes}
 use Rattle.bases.proofs.Words.{words-bound}
-use Rattle.shapes.proofs.Put.{of-base}
+use Rattle.sets.specs.Set.{setOf}
 use borrow.Author.Needs.{needs}
 use Rattle.shapes.proofs.block_at.Statement.{statement}
 use Rattle.shapes.proofs.block_at.Tie as tie
 use Rattle.shapes.proofs.block_at.Reads as reads
 use Rattle.shapes.proofs.block_at.Lts as lts
-use Rattle.sets.proofs.two_words.Reads as two-words-reads
 
 mul-at : tie.Need-mul-at
 mul-at c = search needs
 
-mul-two-words : tie.Need-mul-two-words
-mul-two-words c = search needs
+mul-t4 : tie.Need-mul-t4
+mul-t4 c = search needs
 
-shared-slice-read-two-words : tie.Need-shared-slice-read-two-words
-shared-slice-read-two-words c = search needs
+shared-slice-read-t6 : tie.Need-shared-slice-read-t6
+shared-slice-read-t6 c = search needs
 
-add-two-words : tie.Need-add-two-words
-add-two-words c = search needs
+add-t7 : tie.Need-add-t7
+add-t7 c = search needs
 
-mul-two-words-2 : tie.Need-mul-two-words-2
-mul-two-words-2 c = search needs
+mul-t8 : tie.Need-mul-t8
+mul-t8 c = search needs
 
-shared-slice-read-two-words-2 : tie.Need-shared-slice-read-two-words-2
-shared-slice-read-two-words-2 c = search needs
+shared-slice-read-t10 : tie.Need-shared-slice-read-t10
+shared-slice-read-t10 c = search needs
 
-two-words-requires : tie.Need-two-words-requires
-two-words-requires c κs = search needs
+add-t11 : tie.Need-add-t11
+add-t11 c = search needs
 
-add-t12 : tie.Need-add-t12
-add-t12 c = search needs
+mul-t12 : tie.Need-mul-t12
+mul-t12 c = search needs
 
-mul-t13 : tie.Need-mul-t13
-mul-t13 c = search needs
+shared-slice-read-t14 : tie.Need-shared-slice-read-t14
+shared-slice-read-t14 c = search needs
 
-shared-slice-read-t15 : tie.Need-shared-slice-read-t15
-shared-slice-read-t15 c = search needs
+add-t15 : tie.Need-add-t15
+add-t15 c = search needs
 
-add-t16 : tie.Need-add-t16
-add-t16 c = search needs
+mul-t16 : tie.Need-mul-t16
+mul-t16 c = search needs
 
-mul-t17 : tie.Need-mul-t17
-mul-t17 c = search needs
+shared-slice-read-t18 : tie.Need-shared-slice-read-t18
+shared-slice-read-t18 c = search needs
 
-shared-slice-read-t19 : tie.Need-shared-slice-read-t19
-shared-slice-read-t19 c = search needs
+add-t20 : tie.Need-add-t20
+add-t20 c = search needs
+
+mul-t21 : tie.Need-mul-t21
+mul-t21 c = search needs
+
+shared-slice-read-t23 : tie.Need-shared-slice-read-t23
+shared-slice-read-t23 c = search needs
+
+add-t24 : tie.Need-add-t24
+add-t24 c = search needs
+
+mul-t25 : tie.Need-mul-t25
+mul-t25 c = search needs
+
+shared-slice-read-t27 : tie.Need-shared-slice-read-t27
+shared-slice-read-t27 c = search needs
 
 returns : tie.Need-returns
+unfolding setOf
 returns c =
-    let base = c .before .before .two-words .ensures in
-    let word = c .shared-slice-known5 .given in
-    (simp towards-suc (of-base (simp towards-suc at base)), subst (λ (n : ℕ). n < 2 ^ codes) (sym base) (words-bound (more (word _ .fits) (more (word _ .fits) none))))
+    let word = c .shared-slice-known6 .given in
+    (simp towards-suc refl, words-bound (more (word _ .fits) (more (word _ .fits) (more (word _ .fits) (more (word _ .fits) none)))))
 
 pub block-at-spec : {M : Type 1} → statement M
 block-at-spec =
     tie.close
     (tie.spec
     mul-at
-    mul-two-words
-    shared-slice-read-two-words
-    add-two-words
-    mul-two-words-2
-    shared-slice-read-two-words-2
-    two-words-requires
-    add-t12
-    mul-t13
-    shared-slice-read-t15
-    add-t16
-    mul-t17
-    shared-slice-read-t19
+    mul-t4
+    shared-slice-read-t6
+    add-t7
+    mul-t8
+    shared-slice-read-t10
+    add-t11
+    mul-t12
+    shared-slice-read-t14
+    add-t15
+    mul-t16
+    shared-slice-read-t18
+    add-t20
+    mul-t21
+    shared-slice-read-t23
+    add-t24
+    mul-t25
+    shared-slice-read-t27
     returns)

@@ -45,6 +45,24 @@ mul-out-4 c = search needs
 slice-write-out-4 : tie.Need-slice-write-out-4
 slice-write-out-4 c = simp length-set (omega arith)
 
+add-out-4 : tie.Need-add-out-4
+add-out-4 c = search needs
+
+mul-out-5 : tie.Need-mul-out-5
+mul-out-5 c = search needs
+
+slice-write-out-5 : tie.Need-slice-write-out-5
+slice-write-out-5 c = simp length-set (omega arith)
+
+add-out-5 : tie.Need-add-out-5
+add-out-5 c = search needs
+
+mul-out-6 : tie.Need-mul-out-6
+mul-out-6 c = search needs
+
+slice-write-out-6 : tie.Need-slice-write-out-6
+slice-write-out-6 c = simp length-set (omega arith)
+
 same-length : tie.Need-same-length
 same-length c = search needs
 
@@ -67,5 +85,11 @@ put-block-spec =
     add-out-3
     mul-out-4
     slice-write-out-4
+    add-out-4
+    mul-out-5
+    slice-write-out-5
+    add-out-5
+    mul-out-6
+    slice-write-out-6
     same-length
     returns)

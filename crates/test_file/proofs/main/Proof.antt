@@ -6,13 +6,10 @@ use Rattle.test_file.proofs.main.Statement.{statement}
 use Rattle.test_file.proofs.main.Tie as tie
 
 abbrev Inv-loop : tie.InvT-loop
-Inv-loop buffer₀ place₀ buffer place = 65536 ≡ length buffer
+Inv-loop buffer₀ place₀ buffer place = 66000 ≡ length buffer
 
 abbrev μ-loop : tie.MeasureT-loop
 μ-loop buffer₀ place₀ buffer place = place .left
-
-large-buffer-requires : tie.Need-large-buffer-requires Inv-loop μ-loop
-large-buffer-requires c κs = search needs
 
 start-requires : tie.Need-start-requires Inv-loop μ-loop
 start-requires c κs = search needs
@@ -50,7 +47,6 @@ main-spec =
     (tie.spec
     Inv-loop
     μ-loop
-    large-buffer-requires
     start-requires
     loop-holds
     slice-aggregate-next
