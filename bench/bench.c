@@ -571,24 +571,56 @@ static size_t make_around(uint64_t *s, size_t blocks, uint64_t most, const uint8
     return BLOCK * blocks;
 }
 
-// A random book of 8 texts and 16 rules of all kinds, with joins or without. Without them the first four texts can all
-// be one text, the others another after it; with them the first two can be the first half of a line, the next four the
-// line, the others its second half, each after those before. The rules allow that; the book is drawn until its run
-// takes four rounds or more.
-static uint64_t counts[8], entered[BOOK_MOST], rules[64], made;
-static size_t numbers;
+// A book: how many texts, numbers of their blocks and numbers of rules it has, these, and the applications of its run.
+struct book {
+    size_t texts, numbers, rules;
+    uint64_t count[8], block[BOOK_MOST], rule[64], made;
+};
 
-static const uint64_t kinds[6] = {3, 0, 1, 2, 4, 5}; // in turn, without joins from the second on
-static const int group_of[2][8] = {{0, 0, 0, 0, 1, 1, 1, 1}, {0, 0, 1, 1, 1, 1, 2, 2}};
+static uint64_t left[SIDES][BOOK_MOST], records[SIDES][RECORDS];
 
-static int allowed(const int *group, uint64_t kind, uint64_t a, uint64_t b, uint64_t c) {
-    if (kind == 3) return group[a] == 1 && group[b] == 0 && group[c] == 2;
-    if (kind == 1) return group[a] <= group[b] && a != b;
-    if (kind == 2) return group[a] < group[b];
-    return group[a] == group[b] && a != b;
+// Each run begins with the blocks as entered.
+static uint64_t run_anew(int side, const struct book *b) {
+    memcpy(left[side], b->block, b->numbers * sizeof *b->block);
+    return book_of[side](b->count, b->texts, left[side], b->numbers, b->rule, b->rules, work, sizeof work,
+                         records[side], RECORDS);
 }
 
-static void make_book(int joins, size_t blocks, uint64_t most) {
+#define UNTOUCHED 255 // no byte of a report, and eight no number of a record, so that those past it show
+
+static void same_book(const struct book *b) {
+    memset(left, UNTOUCHED, sizeof left), memset(records, UNTOUCHED, sizeof records);
+    uint64_t ours = run_anew(0, b);
+    for (int side = 1; side < SIDES; side++) {
+        same(ours == run_anew(side, b) && memcmp(left[0], left[side], sizeof left[0]) == 0, "book");
+        same(memcmp(records[0], records[side], sizeof records[0]) == 0, "records");
+    }
+}
+
+static const uint64_t kinds[6] = {3, 0, 1, 2, 4, 5}; // in turn, without joins from the second on
+static const int part_of[2][2][8] = {{{0, 0, 0, 1}, {0, 1, 1, 2}},
+                                     {{0, 0, 0, 0, 1, 1, 1, 1}, {0, 0, 1, 1, 1, 1, 2, 2}}};
+
+static int allowed(const int *part, uint64_t kind, uint64_t a, uint64_t b, uint64_t c) {
+    if (kind == 3) return part[a] == 1 && part[b] == 0 && part[c] == 2;
+    if (kind == 1) return part[a] <= part[b] && a != b;
+    if (kind == 2) return part[a] < part[b];
+    return part[a] == part[b] && a != b;
+}
+
+// Whether the book that was run is one group, which is none or not, after so many applications at the least.
+static int ended(const uint64_t *r, size_t texts, uint64_t none, uint64_t least) {
+    for (size_t k = 0; k < texts; k++)
+        if (r[RECORD * k + GROUP] != 1) return 0;
+    return r[IS_NONE] == none && r[MADE] >= least;
+}
+
+// A random book of 8 texts and 16 rules of all kinds, or of 4 and 8, with joins or without. Without them the first four
+// texts, of 4 the first three, can all be one text, the others another after it; with them the first two, or one, can
+// be the first half of a line, the next four, or two, the line, the others its second half, each after those before.
+// The rules allow that; the book is drawn until it is one group whose run takes four rounds or more. One that is to be
+// none has any rules but for its joins, and is none after more than a round.
+static void make_book(struct book *b, int joins, int none, size_t texts, size_t blocks, uint64_t most) {
     const size_t half = most / 2, cut = half / 2;
     const struct {
         const uint8_t *text;
@@ -596,38 +628,31 @@ static void make_book(int joins, size_t blocks, uint64_t most) {
         uint64_t most;
     } of[2][3] = {{{text[0], half, most}, {text[1], half, most}},
                   {{text[0], cut, half}, {text[0], half, most}, {text[0] + cut, half - cut, half}}};
-    const int *group = group_of[joins];
-    uint64_t run[BOOK_MOST];
+    const int *part = part_of[texts == 8][joins];
+    const size_t round = 2 * texts;
+    b->texts = texts, b->rules = 4 * round;
     do {
         for (int g = 0; g < 2; g++)
             for (size_t i = 0; i < half; i++) text[g][i] = 97 + (i ? rnd(LETTERS) : (uint64_t)g);
         if (joins) text[0][cut] = 98;
-        numbers = 0;
-        for (int k = 0; k < 8; k++) {
-            int g = group[k];
-            counts[k] = blocks;
-            uint64_t *to = entered + numbers;
-            numbers += make_around(to, blocks, of[joins][g].most, of[joins][g].text, of[joins][g].length);
+        b->numbers = 0;
+        for (size_t k = 0; k < texts; k++) {
+            int p = part[k];
+            b->count[k] = blocks;
+            uint64_t *to = b->block + b->numbers;
+            b->numbers += make_around(to, blocks, of[joins][p].most, of[joins][p].text, of[joins][p].length);
         }
-        for (int j = 0; j < 16; j++) {
-            uint64_t a, b, c = 0, kind = joins ? kinds[j % 6] : kinds[1 + j % 5];
+        for (size_t j = 0; j < round; j++) {
+            uint64_t x, y, z = 0, kind = joins ? kinds[j % 6] : kinds[1 + j % 5];
             do {
-                a = rnd(8), b = rnd(8);
-                if (kind == 3) c = rnd(8);
-            } while (!allowed(group, kind, a, b, c));
-            memcpy(rules + 4 * j, (uint64_t[]){kind, a + 1, b + 1, kind == 3 ? c + 1 : 0}, 32);
+                x = rnd(texts), y = rnd(texts);
+                if (kind == 3) z = rnd(texts);
+            } while (none && kind != 3 ? x == y : !allowed(part, kind, x, y, z));
+            memcpy(b->rule + 4 * j, (uint64_t[]){kind, x + 1, y + 1, kind == 3 ? z + 1 : 0}, 32);
         }
-        memcpy(run, entered, sizeof run);
-        made = plain_book(counts, 8, run, numbers, rules, 64, work, sizeof work);
-    } while (made < 64 || made >= NONE);
-}
-
-static uint64_t left[BOOK_MOST];
-
-// Each run begins with the blocks as entered.
-static uint64_t run_anew(running *run) {
-    memcpy(left, entered, sizeof left);
-    return run(counts, 8, left, numbers, rules, 64, work, sizeof work);
+        run_anew(2, b); // the faster plain C, since many are drawn
+    } while (!ended(records[2], texts, none, none ? round + 1 : 4 * round));
+    b->made = records[2][MADE];
 }
 
 static uint8_t file[FILE_MOST], report[SIDES][REPORT_LEAST];
@@ -637,8 +662,6 @@ static uint64_t hosted(size_t n, uint8_t *report) {
     int64_t answer = wedgeotter_run_file(file, n, report, REPORT_LEAST, work, sizeof work);
     return answer < 0 ? REFUSED : (uint64_t)answer;
 }
-
-#define UNTOUCHED 255 // no byte of a report, so that those past it show
 
 static void same_files(size_t n) {
     static uint8_t host_report[REPORT_LEAST];
@@ -665,24 +688,24 @@ static void same_near(size_t n) {
 }
 
 // Makes the book a file, its blocks under this heading with so many words of each base.
-static size_t write_file(const char *heading, int words) {
+static size_t write_file(const struct book *b, const char *heading, int words) {
     char *const start = (char *)file, *to = start;
-    to += sprintf(to, "TEXTS 8\n");
-    for (int k = 0; k < 8; k++) to += sprintf(to, "%d\n", (int)counts[k]);
-    to += sprintf(to, "%s %d\n", heading, (int)numbers / BLOCK);
-    for (uint64_t *b = entered; b < entered + numbers; b += BLOCK) {
-        for (int w = words; w-- > 0;) to += sprintf(to, "%016llx", (unsigned long long)b[w]);
-        to += sprintf(to, " %d %d\n", (int)b[LOWER], (int)b[UPPER]);
+    to += sprintf(to, "TEXTS %d\n", (int)b->texts);
+    for (size_t k = 0; k < b->texts; k++) to += sprintf(to, "%d\n", (int)b->count[k]);
+    to += sprintf(to, "%s %d\n", heading, (int)b->numbers / BLOCK);
+    for (const uint64_t *n = b->block; n < b->block + b->numbers; n += BLOCK) {
+        for (int w = words; w-- > 0;) to += sprintf(to, "%016llx", (unsigned long long)n[w]);
+        to += sprintf(to, " %d %d\n", (int)n[LOWER], (int)n[UPPER]);
     }
-    to += sprintf(to, "RULES 16\n");
-    for (uint64_t *r = rules; r < rules + 64; r += 4)
+    to += sprintf(to, "RULES %d\n", (int)b->rules / 4);
+    for (const uint64_t *r = b->rule; r < b->rule + b->rules; r += 4)
         to += sprintf(to, "%d %d %d %d\n", (int)r[0], (int)r[1], (int)r[2], (int)r[3]);
     return to - start;
 }
 
 // The book as a file. At last one with codes over 127, which is compared, but not timed.
-static void files(const char *what, const char *size) {
-    size_t n = write_file("BLOCKS", WORDS / 2);
+static void files(const char *what, const char *size, struct book *b) {
+    size_t n = write_file(b, "BLOCKS", WORDS / 2);
     same_near(n);
     double best[SIDES] = {0}, host = 0;
     TURNS(2) {
@@ -691,28 +714,90 @@ static void files(const char *what, const char *size) {
         TIME(host, 0, 1, hosted(n, report[0]));
     }
     show(what, size, SIDES, best);
-    printf("           %d applications, %d bytes\n", (int)made, (int)n);
+    printf("           %d applications, %d bytes\n", (int)b->made, (int)n);
     best[0] = host;
     show("from C", size, SIDES, best);
     puts("");
-    add_latin(entered, numbers);
-    same_near(write_file("WIDE", WORDS));
+    add_latin(b->block, b->numbers);
+    same_near(write_file(b, "WIDE", WORDS));
 }
 
-// A book run by all sides.
+// A book of 8 texts and 16 rules run by all sides.
 static void books(const char *size, int joins, size_t blocks, uint64_t most) {
-    static uint64_t kept[BOOK_MOST];
-    make_book(joins, blocks, most);
-    uint64_t ours = run_anew(wedgeotter_book);
-    memcpy(kept, left, sizeof kept);
-    for (int side = 1; side < SIDES; side++)
-        same(ours == run_anew(book_of[side]) && memcmp(kept, left, sizeof kept) == 0, "book");
+    static struct book book;
+    make_book(&book, joins, 0, 8, blocks, most);
+    same_book(&book);
     double best[SIDES] = {0};
     TURNS(2)
-        for (int side = 0; side < SIDES; side++) TIME(best[side], 0, 1, run_anew(book_of[side]));
+        for (int side = 0; side < SIDES; side++) TIME(best[side], 0, 1, run_anew(side, &book));
     show(joins ? "join book" : "book", size, SIDES, best);
-    printf("           %d applications\n", (int)made);
-    files(joins ? "join file" : "file", size);
+    printf("           %d applications\n", (int)book.made);
+    files(joins ? "join file" : "file", size, &book);
+}
+
+// Two houses, each with a book of 4 texts and 8 rules, and both books in one: the texts of the second after those of
+// the first, their rules in turn.
+static struct book house[2], merged;
+
+static void make_houses(int joins, int none, size_t blocks, uint64_t most) {
+    for (int h = 0; h < 2; h++) make_book(&house[h], joins, none >> h & 1, 4, blocks, most);
+    merged = house[0];
+    merged.texts = 8, merged.numbers += house[1].numbers, merged.rules = 64, merged.made += house[1].made;
+    memcpy(merged.count + 4, house[1].count, 4 * sizeof *merged.count);
+    memcpy(merged.block + house[0].numbers, house[1].block, house[1].numbers * sizeof *merged.block);
+    for (int j = 0; j < 16; j++) {
+        uint64_t *r = merged.rule + 4 * j;
+        memcpy(r, house[j % 2].rule + 4 * (j / 2), 4 * sizeof *r);
+        for (int k = 1; k < 4; k++)
+            if (r[k]) r[k] += j % 2 * 4;
+    }
+}
+
+// Both books in one give each house what its own book gives, by a plain C, so that ours on both stays beside it.
+static void same_apart(void) {
+    run_anew(0, &merged);
+    const uint64_t *shapes = left[0], *r = records[0];
+    for (int h = 0; h < 2; shapes += house[h++].numbers) {
+        run_anew(1, &house[h]);
+        same(memcmp(shapes, left[1], house[h].numbers * sizeof *shapes) == 0, "a house's shapes");
+        for (const uint64_t *own = records[1]; own < records[1] + 4 * RECORD; own += RECORD, r += RECORD)
+            same(r[GROUP] == own[GROUP] + 4 * h && r[IS_NONE] == own[IS_NONE] && r[MADE] == own[MADE],
+                 "a house's record");
+    }
+}
+
+// Books that are compared, but not timed: each house none or stable, then without one rule after another, until every
+// text is alone; at last a book that is refused.
+static void same_houses(int joins, size_t blocks, uint64_t most) {
+    for (int none = 0; none < 4; none++) {
+        make_houses(joins, none, blocks, most);
+        same_book(&house[0]), same_book(&house[1]), same_apart();
+        for (;; merged.rules -= 4) {
+            same_book(&merged);
+            same_files(write_file(&merged, "BLOCKS", WORDS / 2)), same_files(write_file(&merged, "WIDE", WORDS));
+            if (merged.rules == 0) break;
+            uint64_t *last = merged.rule + merged.rules - 4, *out = merged.rule + 4 * rnd(merged.rules / 4);
+            memmove(out, out + 4, (last - out) * sizeof *out);
+        }
+        merged.count[7] = 0;
+        same_book(&merged);
+    }
+}
+
+// The book of two houses run by all sides; then beside the proved call on it the two on each house's own book.
+static void houses(const char *size, size_t blocks, uint64_t most) {
+    for (int joins = 0; joins < 2; joins++) same_houses(joins, blocks, most);
+    make_houses(0, 0, blocks, most);
+    same_book(&merged);
+    double best[SIDES] = {0}, apart = 0;
+    TURNS(2) {
+        for (int side = 0; side < SIDES; side++) TIME(best[side], 0, 1, run_anew(side, &merged));
+        TIME(apart, 0, 1, run_anew(0, &house[0]) + run_anew(0, &house[1]));
+    }
+    show("two houses", size, SIDES, best);
+    printf("           %d applications\n", (int)merged.made);
+    show("one call beside two", size, 2, (double[]){best[0], apart});
+    puts("");
 }
 
 int main(void) {
@@ -724,7 +809,8 @@ int main(void) {
          "ours; a tray stands beside as many single calls of ours, then a loop in plain C. Equality but for padding "
          "makes a second pass on pairs that are none to the letter; the ratio without these follows, and the greatest "
          "of a pair. Equality but for letter case is timed where every base has both cases of its letters. Large bases "
-         "have half of all 256 codes, those called Latin have codes over 127 beside letters.");
+         "have half of all 256 codes, those called Latin have codes over 127 beside letters. Two houses are two books "
+         "of 4 texts and 8 rules each in one; our one call on it then stands beside two, one on each house's book.");
     printf("%-52s %12s %12s %6s %12s %6s %8s\n", "", "ours", "bytes", "ratio", "rows", "ratio", "to equal");
     bounds("8 blocks, 40 characters", 8, 40);
     bounds("32 blocks, 250 characters", 32, 250);
@@ -765,5 +851,7 @@ int main(void) {
     few_joins("1 and 1, beside 32 blocks, 250", 32, 250);
     books("8 blocks, 40 characters", 1, 8, 40);
     books("32 blocks, 250 characters", 1, 32, 250);
+    houses("8 blocks, 40 characters", 8, 40);
+    houses("32 blocks, 250 characters", 32, 250);
     return 0;
 }

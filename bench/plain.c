@@ -582,47 +582,82 @@ struct refusal plain_check_book(const uint64_t *counts, size_t texts, const uint
     return (struct refusal){w < 63001 ? 4 : 0, 0, 0};
 }
 
-// The rounds of a checked book, on a copy of the blocks.
-uint64_t run_rounds(narrowing_by_kind *narrow, const uint64_t *counts, size_t texts, uint64_t *blocks, size_t nb,
-                    const uint64_t *rules, size_t nr, uint8_t *t) {
-    uint64_t copy[BOOK_MOST], new[3][SHAPE_MOST], *at[9] = {copy}, made = 0;
-    memcpy(copy, blocks, nb * sizeof *copy);
-    memset(t, 0, 63001);
-    for (size_t k = 0; k < texts; k++) at[k + 1] = at[k] + BLOCK * counts[k];
+// How many texts a rule names.
+static int named(const uint64_t *rule) { return rule[0] == 3 ? 3 : 2; }
+
+// The rounds of rules over shapes, that of text k at at[k - 1]: whether they end stable, and the applications.
+static int run_rounds(narrowing_by_kind *narrow, const uint64_t *counts, uint64_t *const *at, const uint64_t *rules,
+                      size_t nr, uint8_t *t, uint64_t *made) {
+    uint64_t new[3][SHAPE_MOST];
+    *made = 0;
     for (int changed = 1; changed;) {
         changed = 0;
-        for (size_t j = 0; j < nr; j += 4) {
-            int named = rules[j] == 3 ? 3 : 2;
+        for (const uint64_t *r = rules; r < rules + nr; r += 4) {
             uint64_t *old[3], some;
             size_t n[3];
-            for (int k = 0; k < named; k++) {
-                uint64_t text = rules[j + 1 + k] - 1;
-                old[k] = at[text];
-                n[k] = BLOCK * counts[text];
+            for (int k = 0; k < named(r); k++) {
+                old[k] = at[r[1 + k] - 1];
+                n[k] = BLOCK * counts[r[1 + k] - 1];
             }
-            if (named == 3)
+            if (named(r) == 3)
                 some = run_join(narrow, old[0], n[0], old[1], n[1], old[2], n[2], t, new[0], new[1], new[2]);
-            else some = narrow(rules[j], old[0], n[0], old[1], n[1], t, new[0], new[1]);
-            made++;
-            if (some != 1) return made | NONE;
-            for (int k = 0; k < named; k++) {
-                if (memcmp(old[k], new[k], n[k] * sizeof *copy) == 0) continue;
-                memcpy(old[k], new[k], n[k] * sizeof *copy);
+            else some = narrow(r[0], old[0], n[0], old[1], n[1], t, new[0], new[1]);
+            ++*made;
+            if (some != 1) return 0;
+            for (int k = 0; k < named(r); k++) {
+                if (memcmp(old[k], new[k], n[k] * sizeof *new[k]) == 0) continue;
+                memcpy(old[k], new[k], n[k] * sizeof *new[k]);
                 changed = 1;
             }
         }
     }
-    memcpy(blocks, copy, nb * sizeof *copy);
-    return made;
+    return 1;
+}
+
+// The name of each text's group: of two groups that a rule links, that with the greater name takes the other's.
+static void name_groups(size_t texts, const uint64_t *rules, size_t nr, uint64_t *name) {
+    for (size_t k = 0; k < texts; k++) name[k] = k + 1;
+    for (const uint64_t *r = rules; r < rules + nr; r += 4)
+        for (int i = 2; i <= named(r); i++) {
+            uint64_t a = name[r[1] - 1], b = name[r[i] - 1], least = a < b ? a : b, other = a < b ? b : a;
+            for (size_t k = 0; k < texts; k++)
+                if (name[k] == other) name[k] = least;
+        }
+}
+
+// A checked book, group by group, each with its own rules, on a copy of the blocks: no group touches another's, and
+// those of a stable one are taken back.
+void run_groups(narrowing_by_kind *narrow, const uint64_t *counts, size_t texts, uint64_t *blocks, size_t nb,
+                const uint64_t *rules, size_t nr, uint8_t *t, uint64_t *records) {
+    uint64_t copy[BOOK_MOST], name[8], own[64], *at[9] = {copy}, made;
+    memcpy(copy, blocks, nb * sizeof *copy);
+    memset(t, 0, 63001);
+    for (size_t k = 0; k < texts; k++) at[k + 1] = at[k] + BLOCK * counts[k];
+    name_groups(texts, rules, nr, name);
+    for (uint64_t g = 1; g <= texts; g++) {
+        if (name[g - 1] != g) continue;
+        size_t n = 0;
+        for (const uint64_t *r = rules; r < rules + nr; r += 4)
+            if (name[r[1] - 1] == g) memcpy(own + n, r, 4 * sizeof *own), n += 4;
+        int stable = run_rounds(narrow, counts, at, own, n, t, &made);
+        for (size_t k = g - 1; k < texts; k++) {
+            if (name[k] != g) continue;
+            memcpy(records + RECORD * k, (uint64_t[]){g, !stable, made}, RECORD * sizeof *records);
+            if (stable) memcpy(blocks + (at[k] - copy), at[k], BLOCK * counts[k] * sizeof *copy);
+        }
+    }
 }
 
 uint64_t run_book(narrowing_by_kind *narrow, const uint64_t *counts, size_t texts, uint64_t *blocks, size_t nb,
-                  const uint64_t *rules, size_t nr, uint8_t *t, size_t w) {
+                  const uint64_t *rules, size_t nr, uint8_t *t, size_t w, uint64_t *records, size_t nrec) {
+    if (nrec < RECORDS) return REFUSED;
+    memset(records, 0, RECORDS * sizeof *records);
     if (plain_check_book(counts, texts, blocks, nb, rules, nr, w).number) return REFUSED;
-    return run_rounds(narrow, counts, texts, blocks, nb, rules, nr, t);
+    run_groups(narrow, counts, texts, blocks, nb, rules, nr, t, records);
+    return 0;
 }
 
 uint64_t plain_book(const uint64_t *counts, size_t texts, uint64_t *blocks, size_t nb, const uint64_t *rules, size_t nr,
-                    uint8_t *t, size_t w) {
-    return run_book(plain_by_kind, counts, texts, blocks, nb, rules, nr, t, w);
+                    uint8_t *t, size_t w, uint64_t *records, size_t nrec) {
+    return run_book(plain_by_kind, counts, texts, blocks, nb, rules, nr, t, w, records, nrec);
 }

@@ -9,6 +9,10 @@ enum { WORDS = 4, CODES = 64 * WORDS, LOWER = WORDS, UPPER, BLOCK };
 // The most numbers of a shape, and of a book's texts; the most bytes of a file, and the least of a report's room.
 enum { SHAPE_MOST = 32 * BLOCK, BOOK_MOST = 256 * BLOCK, FILE_MOST = 32768, REPORT_LEAST = 32768 };
 
+// The record of a text in a book that is run: its group's name, whether that is none, and its applications. All eight
+// are written, those past the last text, and all where the book is refused, with 0.
+enum { GROUP, IS_NONE, MADE, RECORD, RECORDS = 8 * RECORD };
+
 typedef uint64_t fitting(const uint64_t *s, size_t n, const uint8_t *t, size_t k);
 typedef uint64_t finding(const uint64_t *s, size_t n, const uint8_t *mark, size_t m);
 typedef uint64_t extreme(const uint64_t *s, size_t n, uint8_t *out, size_t k);
@@ -19,11 +23,10 @@ typedef uint64_t joining(const uint64_t *x, size_t nx, const uint64_t *y, size_t
 typedef uint64_t showing(const uint64_t *x, size_t nx, const uint64_t *y, size_t ny, uint8_t *t, size_t w, uint8_t *out,
                          size_t k);
 typedef uint64_t running(const uint64_t *counts, size_t texts, uint64_t *blocks, size_t nb, const uint64_t *rules,
-                         size_t nr, uint8_t *t, size_t w);
+                         size_t nr, uint8_t *t, size_t w, uint64_t *records, size_t nrec);
 typedef uint64_t filing(const uint8_t *file, size_t n, uint8_t *report, size_t k);
 
-// The applications of a run, with NONE where it ends so, or REFUSED.
-#define NONE 1048576
+// What a book or a file that is refused gives; an accepted book gives 0, a file the length of its report.
 #define REFUSED 2097152
 
 extreme plain_least, plain_greatest; // the text's length, 1000 for a refusal
@@ -79,8 +82,8 @@ uint64_t run_any_case(narrowing_by_kind *narrow, const uint64_t *x, size_t nx, c
                       uint64_t *ox, uint64_t *oy);
 uint64_t run_join(narrowing_by_kind *narrow, const uint64_t *x, size_t nx, const uint64_t *y, size_t ny,
                   const uint64_t *z, size_t nz, uint8_t *t, uint64_t *ox, uint64_t *oy, uint64_t *oz);
-uint64_t run_rounds(narrowing_by_kind *narrow, const uint64_t *counts, size_t texts, uint64_t *blocks, size_t nb,
-                    const uint64_t *rules, size_t nr, uint8_t *t);
+void run_groups(narrowing_by_kind *narrow, const uint64_t *counts, size_t texts, uint64_t *blocks, size_t nb,
+                const uint64_t *rules, size_t nr, uint8_t *t, uint64_t *records);
 uint64_t run_book(narrowing_by_kind *narrow, const uint64_t *counts, size_t texts, uint64_t *blocks, size_t nb,
-                  const uint64_t *rules, size_t nr, uint8_t *t, size_t w);
+                  const uint64_t *rules, size_t nr, uint8_t *t, size_t w, uint64_t *records, size_t nrec);
 uint64_t run_file(narrowing_by_kind *narrow, const uint8_t *file, size_t n, uint8_t *report, size_t k);

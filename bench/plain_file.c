@@ -106,6 +106,16 @@ static uint8_t *put_block(uint8_t *to, int words, const uint64_t *b) {
     return put_decimal(put_decimal(to, b[LOWER], ' '), b[UPPER], '\n');
 }
 
+// A line for each group by its name, which is that of its least text.
+static uint8_t *put_groups(uint8_t *to, const uint64_t *records, size_t texts) {
+    for (size_t k = 1; k <= texts; k++, records += RECORD) {
+        if (records[GROUP] != k) continue;
+        to = put_decimal(put(to, "GROUP "), k, ' ');
+        to = put_decimal(put(to, records[IS_NONE] ? "NONE " : "STABLE "), records[MADE], '\n');
+    }
+    return to;
+}
+
 uint64_t run_file(narrowing_by_kind *narrow, const uint8_t *file, size_t n, uint8_t *report, size_t k) {
     static uint8_t work[63001];
     static struct book b;
@@ -114,9 +124,9 @@ uint64_t run_file(narrowing_by_kind *narrow, const uint8_t *file, size_t n, uint
     size_t nb = BLOCK * b.blocks, nr = 4 * b.rules;
     if (plain_check_book(b.count, b.texts, b.block, nb, b.rule, nr, sizeof work).number || k < REPORT_LEAST)
         return REFUSED;
-    uint64_t made = run_rounds(narrow, b.count, b.texts, b.block, nb, b.rule, nr, work);
-    if (made & NONE) return put_decimal(put(report, "NONE "), made ^ NONE, '\n') - report;
-    uint8_t *to = put_decimal(put(report, "STABLE "), made, '\n');
+    uint64_t records[RECORDS];
+    run_groups(narrow, b.count, b.texts, b.block, nb, b.rule, nr, work, records);
+    uint8_t *to = put_groups(report, records, b.texts);
     to = put_decimal(put(to, "TEXTS "), b.texts, '\n');
     for (size_t i = 0; i < b.texts; i++) to = put_decimal(to, b.count[i], '\n');
     to = put_decimal(put(to, b.heading->word), b.blocks, '\n');

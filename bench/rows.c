@@ -687,8 +687,8 @@ uint64_t rows_common(const uint64_t *x, size_t nx, const uint64_t *y, size_t ny,
 }
 
 uint64_t rows_book(const uint64_t *counts, size_t texts, uint64_t *blocks, size_t nb, const uint64_t *rules, size_t nr,
-                   uint8_t *t, size_t w) {
-    return run_book(by_kind, counts, texts, blocks, nb, rules, nr, t, w);
+                   uint8_t *t, size_t w, uint64_t *records, size_t nrec) {
+    return run_book(by_kind, counts, texts, blocks, nb, rules, nr, t, w, records, nrec);
 }
 
 uint64_t rows_file(const uint8_t *file, size_t n, uint8_t *report, size_t k) {

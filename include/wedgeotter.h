@@ -22,9 +22,10 @@ extern "C" {
 /* Runs a book. Lent are the book's bytes, a report buffer and a work buffer, each as a pointer and its length in bytes.
 
    An accepted book gives the number of bytes written to the start of the report, which is above 0. They are those that
-   the program `narrow` prints for the book: STABLE or NONE with the count of applications, and after STABLE the texts,
-   their blocks under the heading that the book has, BLOCKS or WIDE. The rest of the report is as found. The first
-   63,001 bytes of work are 0 then, whatever they were, and any behind them as found.
+   the program `narrow` prints for the book. For each group of texts that rules link, named by its least text g, comes
+   a line GROUP g STABLE count or GROUP g NONE count, the count of applications. Then come all texts, those of a group
+   that is NONE as entered, their blocks under the heading that the book has, BLOCKS or WIDE. The rest of the report is
+   as found. The first 63,001 bytes of work are 0 then, whatever they were, and any behind them as found.
 
    A refused book gives the refusal's number made negative; report and work are then as found. These are tried, in this
    order:

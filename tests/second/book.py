@@ -1,147 +1,55 @@
-"""Running a book of rules: the narrowing of two shapes and of three, applied by document 01's runner."""
+"""Running a book of rules, group after group: the test program's lines, and the books that it is asked about."""
 
 from itertools import permutations, product
 
+from groups import (
+    MOST_RULES, MOST_TEXTS, RULE_SIZE, book_of, four, hold_run_to_answer, merged, ran, run, shapes_at_end, with_names,
+)
+from houses import drawn_book, group_books, refused_books, shuffled
 from making import (
     CASE_ALPHABETS, HIGH_ALPHABETS, HIGH_CASE_ALPHABETS, ONE_EACH, TWO_BAD, WORD_ENDS, Dice, block, carved, counted,
     hexes, high_unsound_blocks, hold_numbers_to_room, large_shape, lists_read, many_blocks, numbers_read, padded_anew,
     random_filling, random_text, recased, shared_out, small_blocks, unsound_blocks, words_of, written,
 )
-from joins import JOIN, narrowed_join
+from joins import JOIN
 from narrow import LONGEST_WORK, TOGETHER, work_shown
-from pairs import (
-    ANY_CASE, AT_MOST, BEFORE, CASED_EQUALITIES, CASED_KINDS, EQUAL, EQUALITIES, EXACT, HOLDS, KINDS, narrowed,
-)
-from shapes import (
-    ALL_CODES, BLANK, BLOCK_SIZE, MOST_BLOCKS, WORK_WANTED, Refused, agree, all_texts, fillings, shape_of, too_long,
-    total,
-)
-
-MOST_TEXTS = 8
-MOST_RULES = 16
-
-# Books whose texts have at most so many combinations are held to every one of them.
-FEW_BOOKS = 3000
-FEW_FILLINGS = 300
+from pairs import ANY_CASE, AT_MOST, BEFORE, CASED_EQUALITIES, CASED_KINDS, EQUAL, EQUALITIES, EXACT, HOLDS, KINDS
+from shapes import ALL_CODES, BLANK, BLOCK_SIZE, MOST_BLOCKS, WORK_WANTED, Refused, agree, shape_of
 
 # What the program has room for.
 MOST_NUMBERS = 1600
 
 
-# Rules. They are four numbers, the fourth 0 except in a join.
-RULE_SIZE = 4
-
-
-def four(rule):
-    """The rule's four numbers; the fourth may be left out where it is 0."""
-    return (*rule, 0)[:RULE_SIZE]
-
-
-def named(rule):
-    """The numbers of the texts that a rule names, in the order in which it reads them."""
-    return rule[1:] if rule[0] == JOIN else rule[1:3]
-
-
-def wrong_rule(rule, texts):
-    """Whether the rule is wrong in a book of so many texts."""
-    kind, *_, fourth = rule
-    if kind not in (*KINDS, JOIN) or (kind != JOIN and fourth != 0):
-        return True
-    return any(not 1 <= text <= texts for text in named(rule)) or len({*named(rule)}) < len(named(rule))
-
-
-def holds(rule, texts):
-    """Whether the rule holds of the texts of a book."""
-    kind, (one, *others) = rule[0], (texts[number - 1] for number in named(rule))
-    return one == b"".join(others) if kind == JOIN else HOLDS[kind](one, *others)
-
-
-def applied(rule, shapes):
-    """The shapes that a rule names narrowed by it, or None for none."""
-    return narrowed_join(*shapes) if rule[0] == JOIN else narrowed(*shapes, rule[0])
-
-
-# Which books are refused.
-
-
-def book_of(counts, words, rules):
-    """The shapes and the rules, refused in the documents' order but for the work buffer."""
-    if not 1 <= len(counts) <= MOST_TEXTS or not all(1 <= count <= MOST_BLOCKS for count in counts):
-        raise Refused(6, 0, 0)
-    if len(words) != BLOCK_SIZE * sum(counts) or len(rules) % RULE_SIZE != 0 or len(rules) > RULE_SIZE * MOST_RULES:
-        raise Refused(6, 0, 0)
-    shapes, at = [], 0
-    for text, count in enumerate(counts, 1):
-        shapes.append(shape_of(words[at : at + BLOCK_SIZE * count], text))
-        at += BLOCK_SIZE * count
-    fours = [tuple(rules[at : at + RULE_SIZE]) for at in range(0, len(rules), RULE_SIZE)]
-    for place, rule in enumerate(fours, 1):
-        if wrong_rule(rule, len(counts)):
-            raise Refused(7, 0, place)
-        if rule[0] == JOIN and too_long(*(shapes[number - 1] for number in rule[2:])):
-            raise Refused(12, 0, place)
-    return shapes, fours
-
-
-# The run.
-
-
-def run(shapes, rules):
-    """The final shapes, or None for none; and the applications made."""
-    now, applications, changed = list(shapes), 0, bool(rules)
-    while changed:
-        changed = False
-        for rule in rules:
-            applications += 1
-            entered = tuple(now[number - 1] for number in named(rule))
-            result = applied(rule, entered)
-            if result is None:
-                return None, applications
-            changed = changed or result != entered
-            for number, shape in zip(named(rule), result):
-                now[number - 1] = shape
-    return now, applications
-
-
-def hold_to_laws(shapes, rules, final):
-    """Raises where the order of the rules counts, or where a row of texts that keeps every rule is lost."""
-    orders = [rules[::-1], rules[1:] + rules[:1], rules[::2] + rules[1::2]]
-    for order in orders if len(rules) > 3 else permutations(rules):
-        agree("the order of rules", (shapes, rules), run(shapes, list(order))[0], final)
-    size = 1
-    for shape in shapes:
-        size *= fillings(shape)
-        if fillings(shape) > FEW_FILLINGS or size > FEW_BOOKS:
-            return
-    for texts in product(*map(all_texts, shapes)):
-        if all(holds(rule, texts) for rule in rules):
-            if final is None or any(text not in all_texts(shape) for text, shape in zip(texts, final)):
-                raise AssertionError(f"texts lost: {shapes} {rules} {texts}")
-
-
 # The expected line of a case.
+
+# The record of a text that is not there, and of every text of a refused book.
+FILLER = "0 stable 0"
+
+
+def records(groups):
+    """For each of the most texts the name of its group, its verdict and its count."""
+    shown = [FILLER] * MOST_TEXTS
+    for group in groups:
+        for text in group.texts:
+            shown[text - 1] = f"{group.name} {group.verdict} {group.count}"
+    return " ".join(shown)
 
 
 def expected_line(line):
     _, work, *numbers = line.split(" ")
     work = int(work, 16)
     counts, words, rules = lists_read(numbers_read(numbers), 3)
-    accepted = False
+    groups = []
     try:
         shapes, fours = book_of(counts, words, rules)
         if work < WORK_WANTED:
             raise Refused(4, 0, 0)
-        accepted = True
-        final, applications = run(shapes, fours)
-        if max(map(total, shapes)) <= 40:
-            hold_to_laws(shapes, fours, final)
-        head = f"none {applications}" if final is None else f"stable {applications}"
-        for at, shape in enumerate(final or ()):
-            start = BLOCK_SIZE * sum(counts[:at])
-            words[start : start + BLOCK_SIZE * len(shape)] = words_of(shape)
+        groups = ran(shapes, fours)
+        head = "accepted"
+        words = [word for shape in shapes_at_end(groups) for word in words_of(shape)]
     except Refused as refusal:
         head = refusal.line
-    return " ".join([head, *hexes(words), work_shown(work, accepted)])
+    return " ".join([head, records(groups), *hexes(words), work_shown(work, head == "accepted")])
 
 
 # Making cases.
@@ -160,13 +68,6 @@ class Cases:
         """A case of texts, each a shape's numbers, and rules, each as `four` takes it."""
         words = [word for text in texts for word in text]
         self.lent([len(text) // BLOCK_SIZE for text in texts], words, [n for rule in rules for n in four(rule)], work)
-
-
-def hold_run_to_answer(what, texts, rules, final, applications):
-    """Raises where the run of a book does not end as it should, texts and final ones written, None for none."""
-    found, made = run([shape_of(written(text)) for text in texts], [four(rule) for rule in rules])
-    agree(what, (texts, rules), found and [words_of(shape) for shape in found], final and [*map(written, final)])
-    agree(what, (texts, rules), made, applications)
 
 
 def hold_to_example():
@@ -418,14 +319,6 @@ def chain_book(dice, alphabets=CHAIN_ALPHABETS, kinds=CASED_KINDS, equalities=CA
         one = dice.between(1, count)
         rules.append((dice.pick(equalities), one, one % count + 1))
     return texts, shuffled(dice, rules)
-
-
-def shuffled(dice, rules):
-    rules = list(rules)
-    for at in range(len(rules) - 1, 0, -1):
-        other = dice.below(at + 1)
-        rules[at], rules[other] = rules[other], rules[at]
-    return rules
 
 
 def random_cases(cases):
@@ -787,8 +680,9 @@ HIGH = (
     (["a1..1 {\xa0}0..1 { }0..2", "a1..1"], [(EQUAL, 1, 2)], ["a1..1 empty 0..0 { }0..2", "a1..1"], 2),
     (RISING, [(BEFORE, 1, 2), (BEFORE, 2, 3), (BEFORE, 3, 4)], RISING, 3),
     (RISING, [(BEFORE, 1, 2), (BEFORE, 3, 2), (BEFORE, 3, 4)], None, 2),
-    (RISING, [(AT_MOST, 2, 4), (AT_MOST, 3, 1)], None, 2),
-    (["{¿,À}1..1", "{À,Á}1..1", "{¿..Á}1..1"], [(BEFORE, 2, 3), (AT_MOST, 3, 2)], None, 2),
+    (RISING, [(AT_MOST, 2, 4), (AT_MOST, 3, 1)], RISING, [(1, "none", 1), (2, "stable", 1)]),
+    (["{¿,À}1..1", "{À,Á}1..1", "{¿..Á}1..1"], [(BEFORE, 2, 3), (AT_MOST, 3, 2)],
+     ["{¿,À}1..1", "{À,Á}1..1", "{¿..Á}1..1"], [(1, "stable", 0), (2, "none", 2)]),
     (["{¿,À}1..1", "{À,Á}1..1", "{¿..Á}1..1"], [(BEFORE, 2, 3), (AT_MOST, 1, 2)], ["{¿,À}1..1", "À1..1", "Á1..1"], 4),
     (DEGREES, [(JOIN, 1, 2, 3)], DEGREES, 1),
     ([*DEGREES, "C1..1 { }2..2"], [(JOIN, 1, 2, 3), (EQUAL, 3, 4)],
@@ -825,6 +719,34 @@ def high_cases(cases):
     cases.book(full, [(BEFORE, 1, 2), (AT_MOST, 4, 3)])
 
 
+def merged_books(tables, step=1):
+    """Books found by hand, each together with the next one that there is room for; and the same with other names."""
+    books = [([written(text) for text in texts], rules) for texts, rules, _, _ in tables]
+    for at in range(0, len(books), step):
+        for other in books[at + 1 :]:
+            texts, rules = merged(books[at], other)
+            if len(texts) <= MOST_TEXTS and len(rules) <= MOST_RULES:
+                yield texts, rules
+                numbers = [*range(1, len(texts) + 1)]
+                order = (numbers[::-1], numbers[1::2] + numbers[::2], numbers[2:] + numbers[:2])[at % 3]
+                yield with_names(texts, rules, order)[:2]
+                break
+
+
+def group_cases(cases):
+    """Books of several groups, those of two houses that become one among them, and those refused for one of them."""
+    for texts, rules in group_books():
+        cases.book(texts, rules)
+    for texts, rules in merged_books(PADDED + CASED + HIGH):
+        cases.book(texts, rules)
+    for texts, rules, work in refused_books():
+        cases.book(texts, rules, work)
+    dice = Dice(36)
+    draws = (chain_book, chain_book, random_book, join_book, any_case_book)
+    for _ in range(140):
+        cases.book(*drawn_book(dice, draws))
+
+
 def all_cases():
     hold_to_example()
     cases = Cases()
@@ -843,6 +765,7 @@ def all_cases():
     any_case_rule_cases(cases)
     any_case_random_cases(cases)
     high_cases(cases)
+    group_cases(cases)
     return cases.lines
 
 

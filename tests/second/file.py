@@ -8,9 +8,11 @@ import re
 from itertools import product
 from pathlib import Path
 
-from book import (
-    CASED, HIGH, MOST_RULES, MOST_TEXTS, PADDED, RULE_SIZE, SERIAL, any_case_book, book_of, chain_book, four,
-    hold_to_laws, join_book, random_book, run, shuffled,
+from book import CASED, HIGH, PADDED, SERIAL, any_case_book, chain_book, join_book, merged_books, random_book
+from groups import MOST_RULES, MOST_TEXTS, RULE_SIZE, book_of, four, merged, ran, shapes_at_end
+from houses import (
+    ALONE, APART, ARRANGED, KEPT, LATE, NARROWED, PARTED, QUICK, SPLICED, WORN, alone_books, drawn_book, graph_books,
+    join_books, one_book, path_books, refused_books, shuffled, verdict_books,
 )
 from joins import JOIN
 from making import (
@@ -19,7 +21,7 @@ from making import (
 )
 from narrow import TOGETHER, by_turns
 from pairs import ANY_CASE, AT_MOST, BEFORE, CASED_EQUALITIES, EQUAL, EXACT
-from shapes import ALL_CODES, BASE_SIZE, BLOCK_SIZE, MOST_BLOCKS, WORD_CODES, Refused, agree, total
+from shapes import ALL_CODES, BASE_SIZE, BLOCK_SIZE, MOST_BLOCKS, WORD_CODES, WORK_WANTED, Refused, agree
 
 MOST_BYTES = 32_768
 REPORT_WANTED = 32_768
@@ -36,7 +38,7 @@ DIGITS = {b"BLOCKS": 32, b"WIDE": 64}
 LONGEST_FILE = 32_800
 LONGEST_REPORT = 32_900
 
-# Document 01's book, its rule with the fourth number of document 02, and what it prints.
+# Document 01's book, its rule with the fourth number of document 02, and what it prints by document 02, order 11.
 EXAMPLE = b"""\
 TEXTS 2
 1
@@ -48,7 +50,7 @@ RULES 1
 0 1 2 0
 """
 EXAMPLE_REPORT = b"""\
-STABLE 2
+GROUP 1 STABLE 2
 TEXTS 2
 1
 1
@@ -253,13 +255,10 @@ def run_file(file, room):
     shapes, fours = book_of(counts, words, rules)
     if room < REPORT_WANTED:
         raise Refused(5, 0, 0)
-    final, applications = run(shapes, fours)
-    if max(map(total, shapes)) <= 40:
-        hold_to_laws(shapes, fours, final)
-    if final is None:
-        return b"NONE %d\n" % applications
-    words = [word for shape in final for word in words_of(shape)]
-    return b"STABLE %d\n" % applications + texts_and_blocks(counts, words, heading)
+    groups = ran(shapes, fours)
+    heads = (f"GROUP {group.name} {group.verdict.upper()} {group.count}\n".encode() for group in groups)
+    words = [word for shape in shapes_at_end(groups) for word in words_of(shape)]
+    return b"".join(heads) + texts_and_blocks(counts, words, heading)
 
 
 def report(file):
@@ -659,7 +658,7 @@ def short_cases(cases):
         cases.file(file)
     for file in (b"T", b"TEXTS", b"TEXTS ", b"TEXTS 1", b"TEXTS 1\n", EXAMPLE_REPORT):
         cases.file(file)
-    for front in (b"STABLE 0\n", b"\n", b" "):
+    for front in (b"STABLE 0\n", b"GROUP 1 STABLE 0\n", b"\n", b" "):
         cases.file(front + EXAMPLE)
     for end in (b"\r\n", b"\r", b" ", b""):
         cases.file(EXAMPLE.replace(b"\n", end))
@@ -805,6 +804,78 @@ def wide_cases(cases):
     high_cases(cases)
 
 
+REPORT = re.compile(rb"((?:GROUP .*\n)+)TEXTS .*\n([^A-Z]*)(?:BLOCKS|WIDE) .*\n([^A-Z]*)")
+
+
+def report_parts(text):
+    """What follows GROUP in a report, line by line; its block counts; its blocks."""
+    heads, counts, blocks = REPORT.fullmatch(text).groups()
+    return [head.split(b" ")[1:] for head in heads.splitlines()], counts, blocks
+
+
+def merged_file(one, other):
+    """Two books of one heading in one file, which reports of both what each reports of its own: their groups, the
+    second one's behind the first one's, their counts and their blocks."""
+    books = [book_read(file) for file in (one, other)]
+    heading = books[0][3]
+    lists = []
+    for counts, words, rules, _ in books:
+        ends = [BLOCK_SIZE * sum(counts[:at]) for at in range(len(counts) + 1)]
+        texts = [words[start:end] for start, end in zip(ends, ends[1:])]
+        lists.append((texts, [tuple(rules[at : at + RULE_SIZE]) for at in range(0, len(rules), RULE_SIZE)]))
+    file = file_of(*merged(*lists), heading)
+    (heads, counts, blocks), (others, *more) = report_parts(report(one)), report_parts(report(other))
+    heads += ([b"%d" % (int(name) + len(lists[0][0])), *verdict] for name, *verdict in others)
+    agree("two books in one", file, report_parts(report(file)), (heads, counts + more[0], blocks + more[1]))
+    return file
+
+
+def merged_examples():
+    """Any two of the books of examples/ that are run, have one heading and fit into one book."""
+    accepted = [file for file in (EXAMPLE, *example_files()) if not report(file).startswith(b"REFUSED")]
+    for one in accepted:
+        for other in accepted:
+            (counts, _, _, heading), (more, _, _, others) = book_read(one), book_read(other)
+            if heading == others and len(counts) + len(more) <= MOST_TEXTS:
+                yield merged_file(one, other)
+
+
+def group_cases(cases):
+    """Books of several groups: stable, none and both, under both headings, and refused for one house's part."""
+    books = [*verdict_books((QUICK, LATE, APART, NARROWED), 3), *verdict_books((QUICK, NARROWED), 4)]
+    for arranged in ARRANGED:
+        for houses in ((SPLICED, PARTED), (PARTED, ALONE, WORN), (WORN, KEPT, APART, QUICK)):
+            books.append(one_book(houses, *arranged))
+    # Every group is none, and no rules.
+    for houses in ((APART,) * 4, (WORN, APART, NARROWED), (PARTED,) * 2, (NARROWED,), (WORN,) * 4, (ALONE,) * 8):
+        books.append(one_book(houses))
+    books += [*graph_books()][::5] + [*path_books()][::7] + [*join_books()][::9] + [*alone_books()][::5]
+    books += merged_books(PADDED + CASED, 3)
+    for at, (texts, rules) in enumerate(books):
+        cases.book(texts, rules, b"WIDE" if at % 4 == 0 else b"BLOCKS")
+        if at % 4 == 1:
+            file = file_of(texts, rules)
+            agree("the file headed WIDE", file, report(widened(file)), widened(report(file)))
+    for texts, rules in merged_books(HIGH):
+        cases.book(texts, rules, b"WIDE")
+    for at, file in enumerate(merged_examples()):
+        if at % 4 == 0:
+            cases.file(file)
+    for texts, rules, work in refused_books():
+        if work == WORK_WANTED:
+            cases.book(texts, rules)
+    for houses in ((APART, APART), (NARROWED, QUICK)):
+        for length in (0, REPORT_WANTED - 1, REPORT_WANTED, REPORT_WANTED + 1):
+            cases.file(file_of(*one_book(houses)), length)
+    dice = Dice(45)
+    draws = (chain_book, random_book, join_book, any_case_book)
+    for _ in range(32):
+        cases.book(*drawn_book(dice, draws))
+    draws = (lambda dice: any_case_book(dice, HIGH_ALPHABETS + HIGH_CASE_ALPHABETS), chain_book)
+    for _ in range(8):
+        cases.book(*drawn_book(dice, draws), b"WIDE")
+
+
 def all_cases():
     hold_to_example()
     cases = Cases()
@@ -825,6 +896,7 @@ def all_cases():
     size_cases(cases)
     any_case_cases(cases)
     wide_cases(cases)
+    group_cases(cases)
     return cases.lines
 
 

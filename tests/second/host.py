@@ -17,6 +17,7 @@ from pairs import ANY_CASE, AT_MOST, BEFORE, EQUAL, EQUALITIES, EXACT
 from shapes import WORK_WANTED, Refused, agree
 
 # What the checking host has room for.
+LONGEST_INPUT = 4_194_304
 LONGEST_BOOK = 65_536
 LONGEST_REPORT = 65_536
 LONGEST_WORK = 131_072
@@ -218,5 +219,5 @@ def hold_to_room(lines):
         book, report_length, work_length = case_read(line)
         if len(book) > LONGEST_BOOK or report_length > LONGEST_REPORT or work_length > LONGEST_WORK:
             raise AssertionError(f"no room for this case: {line}")
-    if len(lines) > MOST_CASES:
+    if len(lines) > MOST_CASES or sum(len(line) + 1 for line in lines) >= LONGEST_INPUT:
         raise AssertionError("no room for so many cases")

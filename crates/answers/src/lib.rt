@@ -81,11 +81,23 @@ pub enum Shown {
     Refused(Refusal),
 }
 
-// How a book's run ends: with stable shapes or in none, with the applications made.
-pub enum Ran {
+// How a run of rules ends: with stable shapes or in none; each with the applications made.
+pub enum Ended {
     Stable(u64),
     None(u64),
-    Refused(Refusal),
+}
+
+// What the run of a book answers of a text: the name of its group, and how the group ends. Past the last text, and
+// where the book is refused, the name is 0, stable with no applications.
+pub struct TextRan {
+    pub group: u64,
+    pub ended: Ended,
+}
+
+// How the run of a book ends: it is accepted or refused; then a record for each text, and up to eight of no text.
+pub struct Ran {
+    pub checked: Checked,
+    pub texts: [TextRan; 8],
 }
 
 // A character index in a text, from 1: neither a length, nor an offset, nor a block's number.

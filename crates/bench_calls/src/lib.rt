@@ -1,16 +1,19 @@
 // The calls as C functions on numbers, for the benchmark and for the measuring of stack: an answer becomes a number, a
 // refusal 1000 or more.
 use answers::AnswerRecord;
+use answers::Checked;
+use answers::Ended;
 use answers::Fit;
 use answers::Narrowed;
-use answers::Ran;
 use answers::Shown;
 use answers::Sought;
 use answers::SweepVerdict;
 use answers::Swept;
+use answers::TextRan;
 use answers::Tray;
 use answers::Written;
-ghost use Prim.Native.Nat.{_<_};
+ghost use Prim.Native.Nat.{_+_, _≤_, _<_};
+ghost use lib.ListN.{length};
 
 #[no_mangle]
 pub extern "C" fn wedgeotter_fits(shape: &[u64], text: &[u8]) -> u64 {
@@ -190,18 +193,60 @@ pub extern "C" fn wedgeotter_common(x: &[u64], y: &[u64], work: &mut [u8], out: 
     }
 }
 
-// The applications made, with bit 20 where the run ends in none.
+// Whether a group is none, and the applications made.
+fn is_none(ended: Ended) -> u64 {
+    match ended {
+        Ended::Stable(_) => 0,
+        Ended::None(_) => 1,
+    }
+}
+
+fn applications(ended: Ended) -> u64 {
+    match ended {
+        Ended::Stable(n) => n,
+        Ended::None(n) => n,
+    }
+}
+
+fn put_record(text: TextRan, records: &mut [u64], at: usize)
+    requires { ⌜ at + 3 ≤ length (now records) ⌝ }
+{
+    let ended = text.ended;
+    let none = is_none(ended);
+    let made = applications(ended);
+    records[at] = text.group;
+    records[at + 1] = none;
+    records[at + 2] = made;
+}
+
+// The records of eight texts as three numbers each, if there is room for them.
+fn put_records(texts: [TextRan; 8], records: &mut [u64]) {
+    if records.len() < 24 {
+        return;
+    }
+    let mut k = 0;
+    while k < 8 {
+        put_record(texts[k], records, 3 * k);
+        k += 1;
+    }
+}
+
+// 0 for an accepted book. The records say the name of each text's group, whether it is none, and its applications.
 #[no_mangle]
 pub extern "C" fn wedgeotter_book(
     counts: &[u64],
     blocks: &mut [u64],
     rules: &[u64],
     work: &mut [u8],
+    records: &mut [u64],
 ) -> u64 {
-    match dashed::run_book(counts, blocks, rules, work) {
-        Ran::Stable(k) => k,
-        Ran::None(k) => k | 1048576,
-        Ran::Refused(_) => 2097152,
+    let ran = dashed::run_book(counts, blocks, rules, work);
+    let checked = ran.checked;
+    let texts = ran.texts;
+    put_records(texts, records);
+    match checked {
+        Checked::Sound => 0,
+        Checked::Refused(_) => 2097152,
     }
 }
 

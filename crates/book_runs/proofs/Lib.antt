@@ -1,5 +1,5 @@
 -- The laws of a book's run.
 pub mod Rounds
-pub mod Determined
+pub mod Final
 pub mod Falls
 pub mod Made

@@ -1,19 +1,13 @@
--- Document 01, "A book and its run": the runner, step by step, and what its call promises.
+-- Document 01, "A book and its run": the runner, step by step.
 use mathlib.Core.Path.{_≡_}
 use mathlib.Core.Bool.{Bool, true, false}
 use mathlib.Core.List.{List}
 use Prim.Native.Nat.{ℕ, zero, suc, _<_}
-use lib.ListN.{length}
-use Rattle.answers.specs.Told.{told}
-use Rattle.answers.specs.declared.Ran.{Ran}
-use Rattle.answers.specs.declared.Ran.the-variants.{Stable as is-stable, None as is-none, Refused}
 use Rattle.shapes.specs.Shape.{Block}
-use Rattle.shapes.specs.Lent.{shapeOf, wordsOf}
-use Rattle.pairs.specs.Narrow.{Cleared}
+use Rattle.shapes.specs.Lent.{shapeOf}
 use Rattle.hulls.specs.Hull.{None, Hull, Outcome, none, shapes}
 use Rattle.rules.specs.Rule.{ruleCount}
 use Rattle.books.specs.Rules.{ruleOf}
-use Rattle.books.specs.Refused.{BookRefused, BookAccepted}
 
 -- The runner applies the n rules in book order, round after round, each on the blocks so far.
 -- `Rounds n P S k c o m`: with the blocks S, before rule k, from 0, of a round that has changed something exactly if c
@@ -34,22 +28,3 @@ pub data Rounds (n : ℕ) (P : ℕ → List (List ℕ) → Type 0) : List Block 
 -- The run of a book from its entered shapes, with the count of applications.
 abbrev pub BookRun : List ℕ → List ℕ → List ℕ → Outcome → ℕ → Type 0
 BookRun counts blocks rules o m = Rounds (ruleCount rules) (ruleOf counts rules) (shapeOf blocks) 0 false o m
-
--- Final shapes: they are left in the lent blocks.
-pub record RunStable (counts blocks rules work blocks′ : List ℕ) (m : ℕ) : Type 0 where
-  pub accepted : BookAccepted counts blocks rules (length work)
-  pub final : List Block
-  pub run : BookRun counts blocks rules (shapes final) m
-  pub left : blocks′ ≡ wordsOf final
-
--- None: the blocks are as on entry.
-pub record RunNone (counts blocks rules work blocks′ : List ℕ) (m : ℕ) : Type 0 where
-  pub accepted : BookAccepted counts blocks rules (length work)
-  pub run : BookRun counts blocks rules none m
-  pub left : blocks′ ≡ blocks
-
--- The run of a book: blocks and work before and after the call.
-abbrev pub RunPromise : List ℕ → List ℕ → List ℕ → List ℕ → List ℕ → List ℕ → Ran → Type 0
-RunPromise counts blocks rules work blocks′ work′ (is-stable m) = RunStable counts blocks rules work blocks′ m × Cleared work work′
-RunPromise counts blocks rules work blocks′ work′ (is-none m) = RunNone counts blocks rules work blocks′ m × Cleared work work′
-RunPromise counts blocks rules work blocks′ work′ (Refused r) = BookRefused counts blocks rules (length work) (told r) × (blocks′ ≡ blocks) × (work′ ≡ work)

@@ -7,8 +7,8 @@ use Rattle.shapes.specs.Shape.{Block}
 use Rattle.shapes.specs.Lent.{shapeOf, wordsOf}
 use Rattle.hulls.specs.Hull.{none, shapes}
 use Rattle.rules.specs.Rule.{ruleCount}
-use Rattle.book_runs.specs.declared.Ended.{Ended}
-use Rattle.book_runs.specs.declared.Ended.the-variants.{Stable as is-stable, None as is-none}
+use Rattle.answers.specs.declared.Ended.{Ended}
+use Rattle.answers.specs.declared.Ended.the-variants.{Stable as is-stable, None as is-none}
 use Rattle.books.specs.Rules.{ruleOf}
 use Rattle.book_runs.specs.Rounds.{Rounds, BookRun}
 

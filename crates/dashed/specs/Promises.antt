@@ -14,7 +14,7 @@ use Rattle.answers.specs.declared.Sought.{Sought}
 use Rattle.answers.specs.declared.Swept.{Swept}
 use Rattle.answers.specs.declared.Tray.{Tray}
 use Rattle.answers.specs.declared.Written.{Written}
-use Rattle.book_runs.specs.Rounds.{RunPromise}
+use Rattle.book_calls.specs.Promise.{RunPromise}
 use Rattle.common_calls.specs.Common.{ShowPromise}
 use Rattle.extreme_steps.specs.declared.Direction.the-variants.{Least, Greatest}
 use Rattle.extremes.specs.Extreme.{ExtremePromise}
@@ -96,7 +96,8 @@ CommonText xs ys work out work′ out′ r = ShowPromise xs ys work out work′ 
 abbrev pub FindMark : List ℕ → List ℕ → Sought → Type 0
 FindMark xs mark r = FindPromise xs mark r
 
--- running a book: lent the texts' block counts, all blocks, the rules and work; with ′ blocks and work as handed back
+-- running a book, group by group (document 02, order 11): lent the texts' block counts, all blocks, the rules and
+-- work; with ′ blocks and work as handed back
 abbrev pub RunBook : List ℕ → List ℕ → List ℕ → List ℕ → List ℕ → List ℕ → Ran → Type 0
 RunBook counts blocks rules work blocks′ work′ r = RunPromise counts blocks rules work blocks′ work′ r
 

@@ -177,8 +177,10 @@ pub fn find(shape: &[u64], mark: &[u8]) -> Sought
 }
 
 // Runs a book of rules: the texts' block counts, all their blocks end to end, the rules as fours (kind, a, b, c), c
-// being 0 except in a join. The final shapes are left in the blocks; on none they are as on entry. It hands back the
-// applications made and takes a work buffer of at least 63,001 bytes.
+// being 0 except in a join. Texts that rules link, directly or through others, form a group, named by its least text
+// number, and each group is run by itself. The final shapes of the stable groups are left in the blocks; the texts of
+// a group that is none are as on entry. For each text it hands back the name of its group, and how the group ends with
+// the applications of its rules; past the last text the name is 0. It takes a work buffer of at least 63,001 bytes.
 pub fn run_book(counts: &[u64], blocks: &mut [u64], rules: &[u64], work: &mut [u8]) -> Ran
     ensures { λ r. ⌜ RunBook (now (counts .entry)) (now (blocks .entry)) (now (rules .entry)) (now (work .entry)) (now (blocks .exit)) (now (work .exit)) r ⌝ }
 {

@@ -14,6 +14,7 @@ use Rattle.texts.specs.Order.{AtMost, Before}
 use Rattle.texts.specs.Padding.{Padded}
 use Rattle.texts.specs.Case.{AnyCase}
 use Rattle.book_steps.proofs.Standing.{standing-first}
+use Rattle.groups.proofs.Own.{own-accepted}
 use Rattle.dashed.proofs.Determined.{earlier-determined}
 use Rattle.extremes.proofs.Order.{of-least, of-greatest}
 use Rattle.demands.specs.Call.{countsAndRules, AcceptedWith}
@@ -21,8 +22,9 @@ use Rattle.demands.specs.Calls.{Calls}
 use Rattle.demands.specs.Demands.{Demand1, Demand2, Demand3}
 use Rattle.demands.proofs.Refusals as refusals
 use Rattle.demands.proofs.Narrowed.{exact-two, exact-join}
-use Rattle.demands.proofs.Sequences.{all-right, alone-stable, stable-alone, calls-agree, permuted-agree, calls-widest, calls-none, calls-accepted, runner-stable, runner-none}
+use Rattle.demands.proofs.Sequences.{all-right, alone-stable, stable-alone, calls-agree, permuted-agree, calls-widest, calls-none, calls-accepted}
 use Rattle.demands.proofs.Choices.{choice-kept}
+use Rattle.demands.proofs.Groups.{agrees, stable-calls, none-calls, run-keeps}
 
 pub demand-1 : Demand1
 demand-1 = record {
@@ -78,10 +80,11 @@ demand-2 = record {
 pub demand-3 : Demand3
 demand-3 = record {
   agree = λ a w r s. calls-agree (a .counted .each) (all-right (a .right)) (standing-first a) w r s;
-  runner-stable = λ n w p r. let a = p .0 .accepted in calls-agree (a .counted .each) (all-right (a .right)) (standing-first a) w r (runner-stable w (p .0) .1);
-  runner-none = λ n w p r. let a = p .0 .accepted in calls-agree (a .counted .each) (all-right (a .right)) (standing-first a) w r (runner-none w (p .0) .1);
-  runner-calls-stable = λ n w p. runner-stable w (p .0);
-  runner-calls-none = λ n w p. runner-none w (p .0);
+  own-book = λ a o. own-accepted o a;
+  runner-stable = λ n w t r. let s = stable-calls w t in (s .1, agrees t w r (s .2), s .5);
+  runner-none = λ n w t r. agrees t w r (none-calls w t .1);
+  runner-calls-stable = λ n w t. let s = stable-calls w t in (s .0, s .1, s .2, s .3, s .4);
+  runner-calls-none = λ n w t. none-calls w t;
   permuted = λ {g} {blocks = blocks} {js = js} {w = w} {e = e} same to from a b n r s.
       permuted-agree (subst (λ (c : List ℕ). AcceptedWith (countsAndRules c (g .rules)) blocks w) same a) b n to from
       (subst (λ (c : List ℕ). Calls (countsAndRules c (g .rules)) blocks js e) same r) s;
@@ -93,4 +96,5 @@ demand-3 = record {
   );
   accepted-on = calls-accepted;
   none-lost = λ a w r c. choice-kept (all-right (a .right)) (standing-first a) (a .counted .each) w r c;
+  runner-keeps = λ w p c. run-keeps p w c;
 }

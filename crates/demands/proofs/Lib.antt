@@ -5,6 +5,7 @@ pub mod Narrowed
 pub mod Calls
 pub mod Sequences
 pub mod Choices
+pub mod Groups
 pub mod Demands
 pub mod Relations
 pub mod Cannot
@@ -19,3 +20,4 @@ pub mod Request8
 pub mod Request9
 pub mod Codes
 pub mod Request10
+pub mod Request11

@@ -11,6 +11,7 @@ use Rattle.answers.specs.declared.Checked.{Checked}
 use Rattle.answers.specs.declared.Fit.{Fit}
 use Rattle.answers.specs.declared.Narrowed.{Narrowed}
 use Rattle.answers.specs.declared.Ran.{Ran}
+use Rattle.answers.specs.declared.TextRan.{TextRan}
 use Rattle.answers.specs.declared.Shown.{Shown}
 use Rattle.answers.specs.declared.Sought.{Sought}
 use Rattle.answers.specs.declared.Swept.{Swept}
@@ -33,7 +34,8 @@ use Rattle.tray_pairs.proofs.Judged.{record-refused, record-refused-one, record
 use Rattle.trays.proofs.Determined.{tray-refused-one, tray-refused-not, tray-determined}
 use Rattle.find_calls.proofs.Determined.{find-refused-one, find-refused-not, find-determined}
 use Rattle.books.proofs.Refused.{book-one, book-not}
-use Rattle.book_runs.proofs.Determined.{run-determined}
+use Rattle.book_calls.specs.Promise.{PromiseFor, refusedRun}
+use Rattle.book_calls.proofs.Determined.{run-determined}
 use Rattle.file_runs.specs.Promise.{runTurns, FileAnswer}
 use Rattle.answers.specs.Turns.{inTurn}
 use Rattle.file_runs.proofs.Determined.{run-refused-one, run-file-not, run-file-determined}
@@ -215,9 +217,12 @@ tray-pair = refuses judgePair
 -- ---- a book, and its file
 
 book-answered : Answered runBook
-book-answered g m m′ (Ran.Stable n) p = inl (p .0 .accepted)
-book-answered g m m′ (Ran.None n) p = inl (p .0 .accepted)
-book-answered g m m′ (Ran.Refused q) p = inr (q, refl)
+book-answered g m m′ r p = go (r .texts) (r .checked) p
+  where
+    go : (row : List TextRan) (x : Checked) → PromiseFor (g .counts) (m .blocks) (g .rules) (m .work) (m′ .blocks) (m′ .work) row x
+        → runBook .checked g m .good ⊎ ((q : Refusal) × (_≡_ {A = Ran} (record { checked = x; texts = row }) (refusedRun q)))
+    go row Checked.Sound p = inl (p .0)
+    go row (Checked.Refused q) p = inr (q, λ i. record { checked = Checked.Refused q; texts = p .3 i })
 
 book-outcome : OneOutcome runBook
 book-outcome g m m′ m″ r s p q =

@@ -8,6 +8,7 @@ use lib.IntN.{pos, negℤ}
 use lib.ListN.{length, getD}
 use Rattle.answers.specs.Told.{Told, tell, told}
 use Rattle.answers.specs.Turns.{here, later}
+use Rattle.answers.specs.declared.TextRan.{TextRan}
 use Rattle.answers.specs.declared.Written.{Written}
 use Rattle.answers.proofs.Turns.{lacks}
 use Rattle.plain.specs.All.{All}
@@ -18,8 +19,7 @@ use Rattle.bases.specs.Base.{Word, Holds, baseOf, baseWords, codes}
 use Rattle.bases.proofs.Words.{in-word}
 use Rattle.sets.proofs.Exact.{held-under}
 use Rattle.shapes.specs.Shape.{blockSize, blockCount}
-use Rattle.shapes.specs.Lent.{Numbers, RightLength, blockAt, shapeOf, ShapeRefused}
-use Rattle.shapes.proofs.Numbers.{shape-words}
+use Rattle.shapes.specs.Lent.{Numbers, RightLength, blockAt, ShapeRefused}
 use Rattle.shapes.proofs.Lent.{small-block}
 use Rattle.shapes.proofs.Refused.{blocks-tells}
 use Rattle.books.specs.Refused.{BookRefused, BookAccepted}
@@ -34,15 +34,15 @@ use Rattle.files.specs.Departs.{FileRefused, FileAccepted}
 use Rattle.files.proofs.Headings.{count-departs, digits-depart}
 use Rattle.files.proofs.Unique.{accepted-one, not-both, writing-one, sheet-one}
 use Rattle.file_reports.specs.Report.{Verdict}
-use Rattle.file_reports.specs.Report.Verdict.{stable}
+use Rattle.file_reports.specs.Report.Verdict.{ran}
 use Rattle.file_runs.specs.Ends.{BookEnds, FileEnds}
-use Rattle.file_runs.specs.Ends.BookEnds.{rests, fails}
+use Rattle.file_runs.specs.Ends.BookEnds.{ends}
 use Rattle.file_runs.specs.Ends.FileEnds.{no-book, wrong-book, of-book}
 use Rattle.file_runs.specs.Promise.{RunRefused, LentPromise}
 use Rattle.file_runs.specs.Promise.ItsBook.{its-book}
 use Rattle.file_runs.proofs.Determined.{run-refused-one, text-report}
 use Rattle.file_runs.proofs.Lent.{reported-front, book-other}
-use Rattle.file_runs.proofs.Ends.{same-book, refused-book, final-below, sheet-right}
+use Rattle.file_runs.proofs.Ends.{same-book, refused-book, left-below, sheet-right}
 use Rattle.rules.specs.Limits.{mostTexts}
 use Rattle.host_calls.specs.Host.{handed}
 use Rattle.demands.specs.Call.{checkShape, runBook, AcceptedWith, givenOf, lentBlocks, runFile, HostMemory}
@@ -96,16 +96,15 @@ answers-5 m m′ (Written.Refused q) a g h p =
 
 -- ---- headings
 
-heading-stays : {file : List ℕ} {b : Book} {s : Sheet} {n : ℕ} → FileAccepted file b → FileEnds file (stable s n) → s .width ≡ b .sheet .width
-heading-stays {file} a (of-book d g (rests run)) = ap (λ (x : Book). x .sheet .width) (accepted-one file _ _ d a)
+heading-stays : {file : List ℕ} {b : Book} {gs : List TextRan} {s : Sheet} → FileAccepted file b → FileEnds file (ran gs s) → s .width ≡ b .sheet .width
+heading-stays {file} a (of-book d g (ends run listed)) = ap (λ (x : Book). x .sheet .width) (accepted-one file _ _ d a)
 
 low-said : (s : Sheet) → s .width ≡ Low → InGrammar (sheetGrammar mostTexts) (sheetParts s) → All (λ c. c .base < 2 ^ 128) (s .blocks)
 unfolding sheetParts
 low-said s e (one-part t (one-part b no-part)) = all-map (λ c r. r .base) (subst (λ (w : Width). All (RightBlock w) (s .blocks)) e (b .right))
 
 ends-under : {k : Width} {counts blocks rules : List ℕ} (w : Width) {v : Verdict} → BookEnds k counts blocks rules v → BookEnds w counts blocks rules (endUnder w v)
-ends-under w (rests p) = rests p
-ends-under w (fails p) = fails p
+ends-under w (ends p listed) = ends p listed
 
 twins : {file twin : List ℕ} {b : Book} (w : Width) {v : Verdict} → FileAccepted file b → FileAccepted twin (under w b) → FileEnds file v → FileEnds twin (endUnder w v)
 twins {file} w a t (no-book p) = absurd (not-both file _ _ a p)
@@ -140,8 +139,8 @@ request-10 = record {
   heading-stays = heading-stays;
   report-heading = λ {file = file} n p a.
       let r = text-report p in
-      (r .verdict, reported-front (r .reported), λ s m e. heading-stays a (subst (FileEnds file) e (r .due)));
-  upper-words-stay = λ n p h. subst (All _) (sym (ap shapeOf (p .0 .left) ∙ shape-words (p .0 .final))) (final-below (p .0 .run) 128 h);
+      (r .verdict, reported-front (r .reported), λ gs s e. heading-stays a (subst (FileEnds file) e (r .due)));
+  upper-words-stay = λ p h. left-below (p .promised .0) (p .promised .1 .ran) 128 h;
   low-stays = λ a e d. low-said _ (heading-stays a d ∙ e) (sheet-right d);
   sheet-right = sheet-right;
   digits-tell = λ s t p q e. sheet-one s t (writing-one p q e);

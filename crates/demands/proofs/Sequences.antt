@@ -20,7 +20,7 @@ use Rattle.books.specs.Rules.{RightRule, ruleOf, AllIn}
 use Rattle.books.specs.Refused.{SoundRules}
 use Rattle.books.proofs.Joinable.{rules-within}
 use Rattle.hulls.proofs.Hull.{hull-within}
-use Rattle.book_runs.specs.Rounds.{Rounds, RunStable, RunNone}
+use Rattle.book_runs.specs.Rounds.{Rounds, BookRun}
 use Rattle.book_runs.specs.Rounds.Rounds.{stops, keeps, changes, round as again, rests as stays}
 use Rattle.book_steps.specs.Step.{Standing}
 use Rattle.book_runs.proofs.Rounds.{Kept, one-kept, among}
@@ -187,19 +187,7 @@ calls-accepted a h r =
       room = a .room;
     }
 
--- the run that `run_book` promises, as such a sequence
-module _ {g : CountsAndRules} {blocks work blocks′ : List ℕ} {m : ℕ} (w : Numbers blocks) where
-  pub runner-stable : RunStable (g .counts) blocks (g .rules) work blocks′ m
-      → (js : List ℕ) × Calls g blocks js (numbers blocks′) × InOrder (ruleCount (g .rules)) 0 js × (length js ≡ m)
-  unfolding endingOf
-  runner-stable p =
-      let a = p .accepted in
-      let s = walk-calls (a .counted .each) (all-right (a .right)) work (a .room) refl (standing-first a) (a .right) w (λ e j l. absurd (omega arith)) (p .run) in
-      (s .0, subst (λ (zs : List ℕ). Calls g blocks (s .0) (numbers zs)) (sym (p .left)) (s .1), s .2, s .3)
-
-  pub runner-none : RunNone (g .counts) blocks (g .rules) work blocks′ m
-      → (js : List ℕ) × Calls g blocks js none × InOrder (ruleCount (g .rules)) 0 js × (length js ≡ m)
-  unfolding endingOf
-  runner-none p =
-      let a = p .accepted in
-      walk-calls (a .counted .each) (all-right (a .right)) work (a .room) refl (standing-first a) (a .right) w (λ e j l. absurd (omega arith)) (p .run)
+-- the run of an accepted book, as such a sequence
+pub runner-calls : {g : CountsAndRules} {blocks : List ℕ} (work : List ℕ) {o : Outcome} {m : ℕ} → Numbers blocks → AcceptedWith g blocks (length work)
+    → BookRun (g .counts) blocks (g .rules) o m → (js : List ℕ) × Calls g blocks js (endingOf o) × InOrder (ruleCount (g .rules)) 0 js × (length js ≡ m)
+runner-calls work w a r = walk-calls (a .counted .each) (all-right (a .right)) work (a .room) refl (standing-first a) (a .right) w (λ e j l. absurd (omega arith)) r

@@ -12,7 +12,6 @@ use Rattle.answers.specs.declared.AnswerRecord.{AnswerRecord}
 use Rattle.answers.specs.declared.Checked.{Checked}
 use Rattle.answers.specs.declared.Fit.{Fit}
 use Rattle.answers.specs.declared.Narrowed.{Narrowed}
-use Rattle.answers.specs.declared.Ran.{Ran}
 use Rattle.answers.specs.declared.Shown.{Shown}
 use Rattle.answers.specs.declared.Sought.{Sought}
 use Rattle.answers.specs.declared.Swept.{Swept}
@@ -33,6 +32,7 @@ use Rattle.trays.specs.Tray.{trayTurns, TrayAccepted}
 use Rattle.find_calls.specs.Find.{Asked, findTurns}
 use Rattle.rules.specs.Rule.{numbersOfAll}
 use Rattle.books.specs.Refused.{BookAccepted, ofBook}
+use Rattle.book_calls.specs.Promise.{refusedRun}
 use Rattle.file_lines.specs.Book.{Book, fileLimit}
 use Rattle.files.specs.Departs.{FileAccepted}
 use Rattle.file_runs.specs.Promise.{runTurns}
@@ -214,7 +214,7 @@ pub record BookMemory : Type 0 where
   pub work : List ℕ
 
 abbrev pub runBook : Call
-runBook = call CountsAndRules BookMemory Ran.Refused
+runBook = call CountsAndRules BookMemory refusedRun
     (λ g m m′. RunBook (g .counts) (m .blocks) (g .rules) (m .work) (m′ .blocks) (m′ .work))
     (λ g m. ofBook (g .counts) (m .blocks) (g .rules) (length (m .work)))
 

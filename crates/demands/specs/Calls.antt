@@ -5,19 +5,24 @@ use mathlib.Core.Path.{_≡_}
 use mathlib.Core.List.{List, [], _∷_}
 use Prim.Native.Nat.{ℕ, zero, suc, _*_, _<_}
 use lib.ListN.{take}
+use Rattle.answers.specs.declared.Ended.{Ended}
 use Rattle.answers.specs.declared.Narrowed.{Narrowed}
 use Rattle.answers.specs.declared.Narrowed.the-variants.{Narrow, None}
+use Rattle.answers.specs.declared.TextRan.{TextRan}
 use Rattle.shapes.specs.Lent.{shapeOf}
 use Rattle.shapes.specs.Shape.{Fits, blockSize}
 use Rattle.hulls.specs.Book.{Within}
 use Rattle.texts.specs.Kind.{joinKind}
 use Rattle.rules.specs.declared.Rule.{Rule}
-use Rattle.rules.specs.Rule.{ruleAt, ruleCount}
+use Rattle.rules.specs.Rule.{ruleAt, ruleCount, numbersOfAll}
 use Rattle.books.specs.Counts.{countOf}
 use Rattle.books.specs.Rules.{Names, Keeps}
 use Rattle.books.specs.Code.{numbersIn}
 use Rattle.book_steps.specs.Step.{Standing, laidOver}
-use Rattle.demands.specs.Call.{Two, NarrowMemory, narrowPadded, narrowExact, narrowAnyCase, narrowAtMost, narrowBefore, Three, JoinMemory, narrowJoin, CountsAndRules}
+use Rattle.groups.specs.Own.{OwnRules}
+use Rattle.groups.specs.Ends.{textRan}
+use Rattle.book_calls.specs.Promise.{ran}
+use Rattle.demands.specs.Call.{Two, NarrowMemory, narrowPadded, narrowExact, narrowAnyCase, narrowAtMost, narrowBefore, Three, JoinMemory, narrowJoin, CountsAndRules, countsAndRules, BookMemory, runBook}
 
 -- The promise of the call on two texts that a rule's kind names: 0 equal once trailing blanks are dropped, 1 a at most
 -- b, 2 a before b, 4 equal to the letter, 5 equal but for letter case.
@@ -93,3 +98,19 @@ pub record WidestLeft (g : CountsAndRules) (blocks zs : List ℕ) : Type 0 where
 pub record Choice (g : CountsAndRules) (xs : List ℕ) (text : ℕ → List ℕ) : Type 0 where
   pub fits : (k : ℕ) → Names (g .counts) k → Fits (shapeOf (numbersIn (g .counts) xs k)) (text k)
   pub keeps : (j : ℕ) → j < ruleCount (g .rules) → Keeps (ruleAt (g .rules) j) text
+
+-- The book of a group: the same texts, with its own rules alone.
+abbrev pub ownBook : CountsAndRules → List Rule → CountsAndRules
+ownBook g own = countsAndRules (g .counts) (numbersOfAll own)
+
+-- A run of an accepted book, by our runner, with the records that it answers.
+pub record RunOf (g : CountsAndRules) (m m′ : BookMemory) (row : List TextRan) : Type 0 where
+  pub promised : runBook .Promise g m m′ (ran row)
+
+-- Of such a run (document 02, order 11) text k, whose group has the rules `own` and ends in v.
+pub record TextIn (g : CountsAndRules) (m m′ : BookMemory) (k : ℕ) (own : List Rule) (v : Ended) : Type 0 where
+  pub row : List TextRan
+  pub run : RunOf g m m′ row
+  pub named : Names (g .counts) k
+  pub its-rules : OwnRules (g .rules) (textRan row k .group) own
+  pub ended : textRan row k .ended ≡ v

@@ -8,10 +8,11 @@ use Prim.Native.Nat.{ℕ, _<_}
 use lib.ListN.{length, getD, take}
 use Rattle.answers.specs.Told.{Told, told}
 use Rattle.answers.specs.declared.Refusal.{Refusal}
+use Rattle.answers.specs.declared.Ended.{Ended}
 use Rattle.answers.specs.declared.Fit.{Fit}
 use Rattle.answers.specs.declared.Narrowed.{Narrowed}
-use Rattle.answers.specs.declared.Ran.{Ran}
 use Rattle.answers.specs.declared.Swept.{Swept}
+use Rattle.answers.specs.declared.TextRan.{TextRan}
 use Rattle.answers.specs.declared.Written.{Written}
 use Rattle.shapes.specs.Shape.{Block, Filling, textOf, Fits, noBlock}
 use Rattle.shapes.specs.Lent.{Numbers, shapeOf}
@@ -22,12 +23,16 @@ use Rattle.hulls.specs.Hull.{Tight}
 use Rattle.hulls.specs.Book.{Within, Stable}
 use Rattle.sweep_steps.specs.Steps.{sweepOf}
 use Rattle.sweep_passes.specs.Read.{sweptOf, outputOf}
+use Rattle.rules.specs.declared.Rule.{Rule}
 use Rattle.rules.specs.Rule.{ruleCount}
-use Rattle.books.specs.Rules.{ruleOf, AllIn}
+use Rattle.books.specs.Rules.{Names, ruleOf, AllIn}
+use Rattle.books.specs.Code.{numbersIn}
 use Rattle.book_steps.specs.Step.{Standing}
+use Rattle.groups.specs.Own.{OwnRules}
+use Rattle.groups.specs.Ends.{textRan}
 use Rattle.dashed.specs.Promises.{FitsShape, Earlier, LeastText, GreatestText}
 use Rattle.demands.specs.Call.{Call, checkShape, fitsShape, leastText, greatestText, findMark, Two, sweep, NarrowMemory, newShape, narrowPadded, narrowExact, narrowAnyCase, narrowAtMost, narrowBefore, narrowJoin, commonText, sweepTray, judgePair, CountsAndRules, BookMemory, runBook, AcceptedWith, runFile, runHost}
-use Rattle.demands.specs.Calls.{LeftAlone, none, numbers, Ending, Calls, InOrder, WidestLeft, Choice}
+use Rattle.demands.specs.Calls.{LeftAlone, none, numbers, Ending, Calls, InOrder, WidestLeft, Choice, ownBook, RunOf, TextIn}
 
 -- ---- demand 1
 
@@ -149,16 +154,22 @@ pub record Demand3 : Type 0 where
   -- says none or none would change anything all agree with each other"
   pub agree : {g : CountsAndRules} {blocks js ks : List ℕ} {w : ℕ} {e u : Ending} → AcceptedWith g blocks w → Numbers blocks
       → Calls g blocks js e → Calls g blocks ks u → e ≡ u
-  -- "and with our runner: all none, or all the same shapes"
-  pub runner-stable : {g : CountsAndRules} {m m′ : BookMemory} {js : List ℕ} {e : Ending} (n : ℕ) → Numbers (m .blocks)
-      → runBook .Promise g m m′ (Ran.Stable n) → Calls g (m .blocks) js e → e ≡ numbers (m′ .blocks)
-  pub runner-none : {g : CountsAndRules} {m m′ : BookMemory} {js : List ℕ} {e : Ending} (n : ℕ) → Numbers (m .blocks)
-      → runBook .Promise g m m′ (Ran.None n) → Calls g (m .blocks) js e → e ≡ none
-  -- our runner is itself such a sequence, of its own applications, in book order, those that change nothing included
-  pub runner-calls-stable : {g : CountsAndRules} {m m′ : BookMemory} (n : ℕ) → Numbers (m .blocks) → runBook .Promise g m m′ (Ran.Stable n)
-      → (js : List ℕ) × Calls g (m .blocks) js (numbers (m′ .blocks)) × InOrder (ruleCount (g .rules)) 0 js × (length js ≡ n)
-  pub runner-calls-none : {g : CountsAndRules} {m m′ : BookMemory} (n : ℕ) → Numbers (m .blocks) → runBook .Promise g m m′ (Ran.None n)
-      → (js : List ℕ) × Calls g (m .blocks) js none × InOrder (ruleCount (g .rules)) 0 js × (length js ≡ n)
+  -- a group's own rules are those of an accepted book (document 02, order 11: "Demand 3 holds group by group"), so that
+  -- all that is said here of a book is said of each of its groups
+  pub own-book : {g : CountsAndRules} {blocks : List ℕ} {w h : ℕ} {own : List Rule} → AcceptedWith g blocks w → OwnRules (g .rules) h own
+      → AcceptedWith (ownBook g own) blocks w
+  -- "and with our runner: all none, or all the same shapes", of each group, at its own texts
+  pub runner-stable : {g : CountsAndRules} {m m′ : BookMemory} {k : ℕ} {own : List Rule} {js : List ℕ} {e : Ending} (n : ℕ) → Numbers (m .blocks)
+      → TextIn g m m′ k own (Ended.Stable n) → Calls (ownBook g own) (m .blocks) js e
+      → (zs : List ℕ) × (e ≡ numbers zs) × (numbersIn (g .counts) (m′ .blocks) k ≡ numbersIn (g .counts) zs k)
+  pub runner-none : {g : CountsAndRules} {m m′ : BookMemory} {k : ℕ} {own : List Rule} {js : List ℕ} {e : Ending} (n : ℕ) → Numbers (m .blocks)
+      → TextIn g m m′ k own (Ended.None n) → Calls (ownBook g own) (m .blocks) js e → e ≡ none
+  -- our runner is itself such a sequence, of the applications of the group's own rules, in book order, those that
+  -- change nothing included; and the count is their number
+  pub runner-calls-stable : {g : CountsAndRules} {m m′ : BookMemory} {k : ℕ} {own : List Rule} (n : ℕ) → Numbers (m .blocks) → TextIn g m m′ k own (Ended.Stable n)
+      → (js zs : List ℕ) × Calls (ownBook g own) (m .blocks) js (numbers zs) × InOrder (length own) 0 js × (length js ≡ n)
+  pub runner-calls-none : {g : CountsAndRules} {m m′ : BookMemory} {k : ℕ} {own : List Rule} (n : ℕ) → Numbers (m .blocks) → TextIn g m m′ k own (Ended.None n)
+      → (js : List ℕ) × Calls (ownBook g own) (m .blocks) js none × InOrder (length own) 0 js × (length js ≡ n)
   -- in whatever order the rules were entered
   pub permuted : {g h : CountsAndRules} {blocks js ks : List ℕ} {w v : ℕ} {e u : Ending} → g .counts ≡ h .counts
       → AllIn (g .rules) (h .rules) → AllIn (h .rules) (g .rules) → AcceptedWith g blocks w → AcceptedWith h blocks v → Numbers blocks
@@ -178,3 +189,6 @@ pub record Demand3 : Type 0 where
   -- "No choice of texts that satisfies the whole book is lost."
   pub none-lost : {g : CountsAndRules} {blocks js : List ℕ} {w : ℕ} {e : Ending} {text : ℕ → List ℕ} → AcceptedWith g blocks w → Numbers blocks
       → Calls g blocks js e → Choice g blocks text → (zs : List ℕ) × (e ≡ numbers zs) × Choice g zs text
+  -- nor by our runner: where there is such a choice every group is stable, and it fits what is left
+  pub runner-keeps : {g : CountsAndRules} {m m′ : BookMemory} {row : List TextRan} {text : ℕ → List ℕ} → Numbers (m .blocks) → RunOf g m m′ row
+      → Choice g (m .blocks) text → ((k : ℕ) → Names (g .counts) k → (n : ℕ) × (textRan row k .ended ≡ Ended.Stable n)) × Choice g (m′ .blocks) text

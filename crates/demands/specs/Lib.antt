@@ -12,3 +12,4 @@ pub mod Request7
 pub mod Request8
 pub mod Request9
 pub mod Request10
+pub mod Request11

@@ -9,10 +9,10 @@ use lib.ListN.{length, getD, take}
 use Rattle.answers.specs.Told.{tell, told}
 use Rattle.answers.specs.declared.Checked.{Checked}
 use Rattle.answers.specs.declared.Fit.{Fit}
-use Rattle.answers.specs.declared.Ran.{Ran}
 use Rattle.answers.specs.declared.Refusal.{Refusal}
 use Rattle.answers.specs.declared.Shown.{Shown}
 use Rattle.answers.specs.declared.Sought.{Sought}
+use Rattle.answers.specs.declared.TextRan.{TextRan}
 use Rattle.answers.specs.declared.Written.{Written}
 use Rattle.plain.specs.All.{All}
 use Rattle.bases.specs.Base.{baseOf, Holds, baseWords, codes}
@@ -31,9 +31,10 @@ use Rattle.file_lines.specs.Lines.{Without, First}
 use Rattle.files.specs.Departs.{Departs, FileAccepted}
 use Rattle.file_runs.specs.Ends.{FileEnds}
 use Rattle.file_reports.specs.Report.{Verdict, reportOf}
-use Rattle.file_reports.specs.Report.Verdict.{stable, none, refused}
+use Rattle.file_reports.specs.Report.Verdict.{ran, refused}
 use Rattle.dashed.specs.Promises.{CheckShape, FitsShape, LeastText, GreatestText, FindMark}
 use Rattle.demands.specs.Call.{CallTells, checkShape, CommonMemory, commonText, CountsAndRules, BookMemory, runBook, AcceptedWith, givenOf, lentBlocks, runFile, HostMemory, runHost}
+use Rattle.demands.specs.Calls.{RunOf}
 
 -- A shape whose one text is the character c, as it is lent.
 abbrev pub alone : ℕ → List ℕ
@@ -50,8 +51,7 @@ abbrev pub under : Width → Book → Book
 under w b = record { sheet = record { width = w; counts = b .sheet .counts; blocks = b .sheet .blocks }; rules = b .rules }
 
 abbrev pub endUnder : Width → Verdict → Verdict
-endUnder w (stable s n) = stable (record { width = w; counts = s .counts; blocks = s .blocks }) n
-endUnder w (none n) = none n
+endUnder w (ran gs s) = ran gs (record { width = w; counts = s .counts; blocks = s .blocks })
 endUnder w (refused t) = refused t
 
 -- The lines of a file up to its count of blocks.
@@ -97,16 +97,16 @@ pub record Request10 : Type 0 where
   -- and where a file departs, the call tells 8 at that line
   pub told-there : {file : List ℕ} (report : List ℕ) (k : ℕ) → length file ≤ 32768 → Departs bookGrammar file k → CallTells runFile file report (tell 8 0 k)
   -- "and the report uses the heading that came in", whatever codes there are
-  pub heading-stays : {file : List ℕ} {b : Book} {s : Sheet} {n : ℕ} → FileAccepted file b → FileEnds file (stable s n) → s .width ≡ b .sheet .width
+  pub heading-stays : {file : List ℕ} {b : Book} {gs : List TextRan} {s : Sheet} → FileAccepted file b → FileEnds file (ran gs s) → s .width ≡ b .sheet .width
   pub report-heading : {file report report′ : List ℕ} {b : Book} (n : ℕ) → runFile .Promise file report report′ (Written.Text n) → FileAccepted file b
-      → (v : Verdict) × (take n report′ ≡ reportOf v) × ((s : Sheet) (m : ℕ) → v ≡ stable s m → s .width ≡ b .sheet .width)
+      → (v : Verdict) × (take n report′ ≡ reportOf v) × ((gs : List TextRan) (s : Sheet) → v ≡ ran gs s → s .width ≡ b .sheet .width)
   -- a run of a BLOCKS book keeps the upper words 0, in the lent blocks too, so that 32 digits tell all: a sheet that is
   -- reported is in the grammar, and of these each writing has one
-  pub upper-words-stay : {g : CountsAndRules} {m m′ : BookMemory} (n : ℕ) → runBook .Promise g m m′ (Ran.Stable n)
+  pub upper-words-stay : {g : CountsAndRules} {m m′ : BookMemory} {row : List TextRan} → RunOf g m m′ row
       → All (λ b. b .base < 2 ^ 128) (shapeOf (m .blocks)) → All (λ b. b .base < 2 ^ 128) (shapeOf (m′ .blocks))
-  pub low-stays : {file : List ℕ} {b : Book} {s : Sheet} {n : ℕ} → FileAccepted file b → b .sheet .width ≡ Low → FileEnds file (stable s n)
+  pub low-stays : {file : List ℕ} {b : Book} {gs : List TextRan} {s : Sheet} → FileAccepted file b → b .sheet .width ≡ Low → FileEnds file (ran gs s)
       → All (λ c. c .base < 2 ^ 128) (s .blocks)
-  pub sheet-right : {file : List ℕ} {s : Sheet} {n : ℕ} → FileEnds file (stable s n) → InGrammar (sheetGrammar mostTexts) (sheetParts s)
+  pub sheet-right : {file : List ℕ} {gs : List TextRan} {s : Sheet} → FileEnds file (ran gs s) → InGrammar (sheetGrammar mostTexts) (sheetParts s)
   pub digits-tell : (s t : Sheet) → InGrammar (sheetGrammar mostTexts) (sheetParts s) → InGrammar (sheetGrammar mostTexts) (sheetParts t)
       → writing (sheetParts s) ≡ writing (sheetParts t) → s ≡ t
   -- "The input limit, and the report buffer of order 4, become 32,768 bytes."

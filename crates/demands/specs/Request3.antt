@@ -7,7 +7,6 @@ use lib.ListN.{length}
 use Rattle.answers.specs.Told.{tell, told}
 use Rattle.answers.specs.declared.Refusal.{Refusal}
 use Rattle.answers.specs.declared.Narrowed.{Narrowed}
-use Rattle.answers.specs.declared.Ran.{Ran}
 use Rattle.answers.specs.declared.Written.{Written}
 use Rattle.shapes.specs.Shape.{Fits, total}
 use Rattle.shapes.specs.Lent.{shapeOf}
@@ -20,6 +19,7 @@ use Rattle.books.specs.Refused.{SoundTexts, SoundRule, BookRefused}
 use Rattle.file_numerals.specs.Digits.{decimal}
 use Rattle.file_lines.specs.Grammar.{joined}
 use Rattle.file_lines.specs.Book.{Book}
+use Rattle.book_calls.specs.Promise.{refusedRun}
 use Rattle.demands.specs.Call.{CallTells, Two, NarrowMemory, newNumbers, newShape, narrowExact, Three, JoinMemory, narrowJoin, CountsAndRules, BookMemory, runBook, AcceptedWith, givenOf, lentBlocks, runFile}
 
 -- A rule's line in a file: its four numbers, with single blanks.
@@ -55,7 +55,7 @@ pub record Request3 : Type 0 where
   -- "6 reads fours of numbers where it read triples": rules that are no whole
   -- fours are refused by 6, and whole fours, up to 16, are no ground for it
   pub six-fours : (g : CountsAndRules) (m : BookMemory) → (length (g .rules) % 4 ≡ 0 → ⊥) → CallTells runBook g m (tell 6 0 0)
-  pub fours-pass : {g : CountsAndRules} {m m′ : BookMemory} (q : Refusal) → runBook .Promise g m m′ (Ran.Refused q) → told q .number ≡ 6
+  pub fours-pass : {g : CountsAndRules} {m m′ : BookMemory} (q : Refusal) → runBook .Promise g m m′ (refusedRun q) → told q .number ≡ 6
       → RightCounts (g .counts) (m .blocks) [] → length (g .rules) % 4 ≡ 0 → ruleCount (g .rules) ≤ 16 → ⊥
   -- "the fourth is 0 except in kind 3, where it is c", and "a, b, c are .. three different texts"
   pub fourth-zero : {g : CountsAndRules} {blocks : List ℕ} {w : ℕ} → AcceptedWith g blocks w → (j : ℕ) → j < ruleCount (g .rules)

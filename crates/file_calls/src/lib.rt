@@ -1,5 +1,5 @@
 // A book file run to its report.
-use answers::Ran;
+use answers::Checked;
 use answers::Written;
 use file_books::Read;
 use file_lines::Width;
@@ -34,14 +34,16 @@ fn report_book(
     if room < file_lines::FILE_LIMIT {
         return Written::Refused(file_runs::refuse_short(counts, blocks, rules, work.len(), room));
     }
-    match book_calls::run_book(counts, blocks, rules, work) {
-        Ran::Refused(r) => Written::Refused(r),
-        Ran::None(m) => Written::Text(file_reports::write_none(m, report)),
-        Ran::Stable(m) => Written::Text(file_reports::write_stable(
+    let ran = book_calls::run_book(counts, blocks, rules, work);
+    let checked = ran.checked;
+    let texts = ran.texts;
+    match checked {
+        Checked::Refused(r) => Written::Refused(r),
+        Checked::Sound => Written::Text(file_reports::write_ran(
             width,
             counts,
             blocks,
-            m,
+            texts,
             report,
         )),
     }

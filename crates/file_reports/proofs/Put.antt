@@ -10,6 +10,9 @@ use lib.Dec.{lit<}
 use lib.Pow.{shr-shr}
 use lib.Seq.{sets, take-suc}
 use Rattle.answers.specs.Told.{Told}
+use Rattle.answers.specs.declared.TextRan.{TextRan}
+use Rattle.groups.specs.Ends.{end}
+use Rattle.groups.proofs.Listed.{names-last, follows-last}
 use Rattle.shapes.specs.Shape.{Block, blockCount}
 use Rattle.plain.specs.All.{All}
 use Rattle.shapes.specs.Lent.{shapeOf, blockAt}
@@ -24,9 +27,9 @@ use Rattle.file_lines.specs.declared.Width.{Width}
 use Rattle.file_lines.specs.declared.Heading.the-variants.{Texts, Blocks}
 use Rattle.file_lines.specs.Book.{Sheet, sheetParts, fileLimit}
 use Rattle.file_lines.proofs.Joined.{joined-append, map-more}
-use Rattle.file_reports.specs.Report.{Verdict, Reported, headOf, sheetAfter, reportOf, refusedWord, refusedLine}
+use Rattle.file_reports.specs.Report.{Verdict, Reported, groupWord, endedLine, groupLine, headOf, sheetAfter, reportOf, refusedWord, refusedLine}
 use Rattle.file_reports.specs.Report.Verdict.{refused}
-use Rattle.file_reports.specs.Put.{Wrote, spaced, pairEnd}
+use Rattle.file_reports.specs.Put.{Wrote, spaced, pairEnd, GroupPut, named, passed, GroupsPut}
 
 pub put-of : (out : List ℕ) (at : ℕ) (t new : List ℕ) (r : ℕ) → r ≡ at + length t → new ≡ sets out at t → Wrote out at t new r
 put-of out at t new r p s = record { place = p; stored = s }
@@ -155,6 +158,32 @@ sheet-put s t k out at o₁ o₂ o₃ o₄ r₁ r₂ r₃ r₄ et ek p₁ p₂ p
     ∙ sym (joined-append x (c ++ (y ++ b)) ∙ ap (λ (u : List ℕ). joined x ++ u) (joined-append c (y ++ b) ∙ ap (λ (u : List ℕ). joined c ++ u) (joined-append y b)))
     ∙ (λ i. joined (headLine (wordOf Texts) (et i) ∷ (c ++ (headLine (wordOf (Blocks (s .width))) (ek i) ∷ sym (append-nil b) i)))))
     q₄
+
+-- ---- the groups
+
+pub group-text : (e : TextRan) → (groupWord ++ decimal (e .group)) ++ joined (endedLine (e .ended) ∷ []) ≡ joined (groupLine e ∷ [])
+unfolding groupLine headLine joined
+group-text e = sym (append-assoc (groupWord ++ decimal (e .group)) (endedLine (e .ended)) (10 ∷ []))
+
+pub groups-none : (out : List ℕ) (at : ℕ) → GroupsPut [] out at out at
+unfolding joined
+groups-none out at = record { groups = []; listed = end; wrote = put-none out at }
+
+-- one text more
+pub groups-more : {es : List TextRan} {out mid new : List ℕ} {at a r : ℕ} (e : TextRan) (k : ℕ) → length es ≡ k → GroupsPut es out at mid a → GroupPut e k mid a new r
+    → GroupsPut (es ++ e ∷ []) out at new r
+groups-more {es} {out} {mid} {new} {at} {a} {r} e k l g (named n w) = record {
+  groups = g .groups ++ e ∷ [];
+  listed = names-last e (g .listed) (omega arith);
+  wrote = put-as out at _ _ new r (sym (ap joined (map-more groupLine (g .groups) e) ∙ joined-append (map groupLine (g .groups)) (groupLine e ∷ [])))
+      (put-then out at _ mid a _ new r (g .wrote) w);
+}
+groups-more {es} {out} {mid} {new} {at} {a} {r} e k l g (passed n p q) = record {
+  groups = g .groups;
+  listed = follows-last e (g .listed) (λ h. n (omega arith));
+  wrote = subst (λ (o : List ℕ). Wrote out at (joined (map groupLine (g .groups))) o r) (sym p)
+      (subst (Wrote out at (joined (map groupLine (g .groups))) mid) (sym q) (g .wrote));
+}
 
 -- ---- whole reports
 

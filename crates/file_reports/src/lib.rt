@@ -1,11 +1,14 @@
-// The report of a book: STABLE with the final shapes, NONE, or REFUSED.
+// The report of a book: its groups and the sheet of what is left, or REFUSED.
+use answers::Ended;
 use answers::Refusal;
+use answers::TextRan;
 use file_lines::Width;
 use sets::Set;
 use shapes::Block;
+ghost use mathlib.Core.Path.{_≡_};
 ghost use mathlib.Core.List.{[], _∷_, map};
-ghost use Prim.Native.Nat.{_+_, _*_, _≤_};
-ghost use lib.ListN.{length};
+ghost use Prim.Native.Nat.{_+_, _*_, _≤_, _<_};
+ghost use lib.ListN.{length, take};
 ghost use Rattle.answers.specs.Told.{told};
 ghost use Rattle.plain.specs.All.{All};
 ghost use Rattle.shapes.specs.Lent.{shapeOf, meant};
@@ -18,9 +21,9 @@ ghost use Rattle.file_lines.specs.Grammar.{RightBlock, headLine, wordOf, blockL
 ghost use Rattle.file_lines.specs.Book.{sheetOf, sheetParts, fileLimit};
 ghost use Rattle.shapes.specs.Shape.{blockCount};
 ghost use Rattle.rules.specs.Limits.{mostTexts, bookBlocks};
-ghost use Rattle.file_reports.specs.Report.{Reported};
-ghost use Rattle.file_reports.specs.Report.Verdict.{stable, none, refused};
-ghost use Rattle.file_reports.specs.Put.{Wrote, spaced, pairEnd, numberRoom, headingRoom, blockRoom, sheetRoom};
+ghost use Rattle.file_reports.specs.Report.{Reported, endedLine};
+ghost use Rattle.file_reports.specs.Report.Verdict.{refused};
+ghost use Rattle.file_reports.specs.Put.{Wrote, spaced, pairEnd, numberRoom, headingRoom, blockRoom, sheetRoom, endedRoom, groupRoom, GroupPut, GroupsPut, RanReported};
 
 // A line of a word and a number.
 fn put_head(word: &[u8], n: u64, out: &mut [u8], at: usize) -> usize
@@ -145,30 +148,70 @@ fn put_sheet(width: Width, counts: &[u64], blocks: &[u64], out: &mut [u8], at: u
     put_blocks(width, blocks, out, c)
 }
 
-// STABLE, the applications made, and the sheet of the final shapes.
-pub fn write_stable(
+// How a group ends, with the applications made, and the newline.
+fn put_ended(ended: Ended, out: &mut [u8], at: usize) -> usize
+    requires { ⌜ at + endedRoom ≤ length (now out) ⌝ }
+    ensures { λ r. ⌜ Wrote (now (out .entry)) at (joined (endedLine ended ∷ [])) (now (out .exit)) r ⌝ }
+    ensures { λ r. ⌜ r ≤ at + endedRoom ⌝ }
+{
+    match ended {
+        Ended::Stable(n) => put_head(b" STABLE ", n, out, at),
+        Ended::None(n) => put_head(b" NONE ", n, out, at),
+    }
+}
+
+// The line of the group that the text at place k names, if it names one.
+fn put_group(text: TextRan, k: usize, out: &mut [u8], at: usize) -> usize
+    requires { ⌜ k < mostTexts ⌝ }
+    requires { ⌜ at + groupRoom ≤ length (now out) ⌝ }
+    ensures { λ r. ⌜ GroupPut text k (now (out .entry)) at (now (out .exit)) r ⌝ }
+    ensures { λ r. ⌜ r ≤ at + groupRoom ⌝ }
+{
+    let group = text.group;
+    if group != k as u64 + 1 {
+        return at;
+    }
+    let ended = text.ended;
+    let a = file_numerals::put_bytes(b"GROUP ", out, at);
+    let b = file_numerals::put_decimal(group, out, a);
+    put_ended(ended, out, b)
+}
+
+// The lines of the groups of the first n texts, by number.
+fn put_groups(texts: [TextRan; rules::TEXTS], n: usize, out: &mut [u8], at: usize) -> usize
+    requires { ⌜ length texts ≡ mostTexts ⌝ }
+    requires { ⌜ n ≤ mostTexts ⌝ }
+    requires { ⌜ at + n * groupRoom ≤ length (now out) ⌝ }
+    ensures { λ r. ⌜ GroupsPut (take n texts) (now (out .entry)) at (now (out .exit)) r ⌝ }
+    ensures { λ r. ⌜ r ≤ at + n * groupRoom ⌝ }
+{
+    let mut end = at;
+    let mut k = 0;
+    while k < n {
+        let text = texts[k];
+        end = put_group(text, k, out, end);
+        k += 1;
+    }
+    end
+}
+
+// The groups of a book's texts, and the sheet of what is left of them.
+pub fn write_ran(
     width: Width,
     counts: &[u64],
     blocks: &[u64],
-    count: u64,
+    texts: [TextRan; rules::TEXTS],
     out: &mut [u8],
 ) -> usize
     requires { ⌜ fileLimit ≤ length (now out) ⌝ }
+    requires { ⌜ length texts ≡ mostTexts ⌝ }
     requires { ⌜ length (now counts) ≤ mostTexts ⌝ }
     requires { ⌜ blockCount (now blocks) ≤ bookBlocks ⌝ }
     requires { ⌜ All (RightBlock width) (shapeOf (now blocks)) ⌝ }
-    ensures { λ r. ⌜ Reported (stable (sheetOf width (now (counts .entry)) (now (blocks .entry))) count) (now (out .entry)) (now (out .exit)) r ⌝ }
+    ensures { λ r. ⌜ RanReported (take (length (now (counts .entry))) texts) (sheetOf width (now (counts .entry)) (now (blocks .entry))) (now (out .entry)) (now (out .exit)) r ⌝ }
 {
-    let head = put_head(b"STABLE ", count, out, 0);
+    let head = put_groups(texts, counts.len(), out, 0);
     put_sheet(width, counts, blocks, out, head)
-}
-
-// NONE and the applications made.
-pub fn write_none(count: u64, out: &mut [u8]) -> usize
-    requires { ⌜ fileLimit ≤ length (now out) ⌝ }
-    ensures { λ r. ⌜ Reported (none count) (now (out .entry)) (now (out .exit)) r ⌝ }
-{
-    put_head(b"NONE ", count, out, 0)
 }
 
 // REFUSED with number, text and place.

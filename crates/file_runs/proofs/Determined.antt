@@ -78,7 +78,7 @@ run-refused-one p q = of-run .one p q
 run-written-one : {file : List ℕ} {work : ℕ} {out b c : List ℕ} {n m : ℕ} → RunWritten file work out b n → RunWritten file work out c m → (n ≡ m) × (b ≡ c)
 run-written-one {work = work} {out = out} {c = c} {m = m} p q =
     let same = same-book (λ k cs w r. ReportWritten k cs w r work out c m) (p .accepted) (q .accepted) (q .written) in
-    report-one (λ v w d e. book-ends-one d e) (p .written .report) (same .report)
+    report-one (λ v w d e. book-ends-one (p .written .accepted) d e) (p .written .report) (same .report)
 
 pub answer-one : (file : List ℕ) (work : ℕ) (out b c : List ℕ) (x y : Written) → FileAnswer file work out b x → FileAnswer file work out c y → (x ≡ y) × (b ≡ c)
 answer-one file work out b c (Text n) (Text m) p q = let e = run-written-one p q in (ap Text (e .0), e .1)

@@ -1,33 +1,28 @@
--- A file ends in one way, and stable shapes of a sound book are sound. Assumes nothing.
-use mathlib.Core.Path.{_≡_, refl, sym, ap, _∙_, subst, subst₂}
-use mathlib.Core.Bool.{Bool}
+-- A file ends in one way, and what is left of a sound book can be written as wide as it came in. Assumes nothing.
+use mathlib.Core.Path.{_≡_, sym, ap, _∙_, subst, subst₂}
 use mathlib.Core.List.{List}
-use Prim.Native.Nat.{ℕ, _*_, _^_, _≤_, _<_}
+use Prim.Native.Nat.{ℕ, _-_, _*_, _^_, _≤_, _<_}
 use native.Mathlib.Omega.{arith}
-use lib.ListN.{length, take}
+use lib.ListN.{length, take, replicate}
+use lib.Seq.{take-at}
 use Rattle.plain.specs.All.{All}
 use Rattle.plain.proofs.All.{all-map}
-use Rattle.shapes.specs.Shape.{Block, Sound, blockSize, blockCount}
+use Rattle.shapes.specs.Shape.{blockSize, blockCount}
 use Rattle.shapes.specs.Lent.{shapeOf, wordsOf}
+use Rattle.shapes.proofs.Lent.{shape-length}
 use Rattle.shapes.proofs.Numbers.{shape-words}
-use Rattle.answers.specs.Told.{Told, told}
+use Rattle.answers.specs.Told.{Told}
 use Rattle.answers.specs.Turns.{here, later}
-use Rattle.answers.specs.declared.Ran.{Ran}
-use Rattle.answers.specs.declared.Ran.the-variants.{Stable as is-stable, None as is-none, Refused as is-refused}
+use Rattle.answers.specs.declared.TextRan.{TextRan}
 use Rattle.answers.specs.declared.Written.{Written}
 use Rattle.answers.specs.declared.Written.the-variants.{Text, Refused}
-use Rattle.hulls.specs.Hull.{Outcome, none, shapes}
-use Rattle.pairs.specs.Narrow.{Cleared}
-use Rattle.hulls.specs.Hull.{Hull}
-use Rattle.hulls.proofs.Hull.{hull-sound, hull-within}
 use Rattle.hulls.proofs.Small.{within-below}
 use Rattle.books.specs.Refused.{BookRefused, BookAccepted}
-use Rattle.book_runs.specs.Rounds.{Rounds, BookRun, RunPromise}
-use Rattle.book_runs.specs.Rounds.Rounds.{stops, keeps, changes, round, rests}
-use Rattle.book_steps.proofs.Standing.{standing-first, few-blocks, blocks-sound}
 use Rattle.books.proofs.Refused.{book-one, book-not}
-use Rattle.book_runs.proofs.Rounds.{walk-one}
-use Rattle.hulls.proofs.Hull.{same-shapes, not-none}
+use Rattle.book_steps.proofs.Standing.{standing-first, few-blocks, blocks-sound}
+use Rattle.groups.specs.Ends.{noText, BookRan, RowRan, GroupsIn}
+use Rattle.groups.proofs.Ends.{book-ran-one, ran-within, ran-accepted, row-length}
+use Rattle.groups.proofs.Listed.{groups-one}
 use Rattle.file_lines.specs.declared.Width.{Width}
 use Rattle.file_lines.specs.declared.Heading.the-variants.{Blocks}
 use Rattle.file_lines.specs.Grammar.{saidWords, RightBlock, InSection, InGrammar}
@@ -39,69 +34,50 @@ use Rattle.file_books.proofs.Ready.{Ready}
 use Rattle.files.proofs.Unique.{accepted-one, refused-one, not-both}
 use Rattle.file_reports.proofs.Ready.{right-of-sound}
 use Rattle.file_reports.specs.Report.{Verdict}
-use Rattle.file_reports.specs.Report.Verdict.{stable, none as in-none, refused}
+use Rattle.file_reports.specs.Report.Verdict.{ran, refused}
 use Rattle.rules.specs.Rule.{ruleSize, numbersOfAll}
 use Rattle.rules.specs.Limits.{mostTexts, bookBlocks}
 use Rattle.file_runs.specs.Ends.{BookEnds, FileEnds}
-use Rattle.file_runs.specs.Ends.BookEnds.{rests as ends-rest, fails}
+use Rattle.file_runs.specs.Ends.BookEnds.{ends}
 use Rattle.file_runs.specs.Ends.FileEnds.{no-book, wrong-book, of-book}
 use Rattle.file_runs.specs.Promise.{ReportRefused, BookAnswer, RunRefused, FileAnswer}
 use Rattle.file_runs.specs.Promise.ItsBook.{its-book}
 
--- ---- a run keeps what each of its steps keeps
+-- ---- what is left can be written as wide as what was entered
 
-Kept : (List Block → Type 0) → Outcome → Type 0
-Kept Q none = Unit {0}
-Kept Q (shapes H) = Q H
-
-kept-end : {n : ℕ} {P : ℕ → List (List ℕ) → Type 0} {S : List Block} {k : ℕ} {c : Bool} {o : Outcome} {m : ℕ} (Q : List Block → Type 0)
-    → ((P : List (List ℕ) → Type 0) (S H : List Block) → Hull P S H → Q S → Q H) → Rounds n P S k c o m → Q S → Kept Q o
-unfolding Kept
-kept-end Q step (stops l e) a = tt
-kept-end Q step (keeps l h w) a = kept-end Q step w a
-kept-end Q step (changes l h d w) a = kept-end Q step w (step _ _ _ h a)
-kept-end Q step (round e w) a = kept-end Q step w a
-kept-end Q step (rests e) a = a
-
-module _ {n : ℕ} {P : ℕ → List (List ℕ) → Type 0} {S H : List Block} {k : ℕ} {c : Bool} {m : ℕ} (w : Rounds n P S k c (shapes H) m) where
-  pub final-sound : All Sound S → All Sound H
-  unfolding Kept
-  final-sound = kept-end (All Sound) (λ P S H h. hull-sound h) w
-
+module _ {counts blocks rules ys : List ℕ} {es : List TextRan} {work : ℕ} (a : BookAccepted counts blocks rules work) (run : BookRan counts blocks rules ys es) where
   -- no new characters: words that are 0 in each base stay 0
-  pub final-below : (j : ℕ) → All (λ b. b .base < 2 ^ j) S → All (λ b. b .base < 2 ^ j) H
-  unfolding Kept
-  final-below j = kept-end (All (λ b. b .base < 2 ^ j)) (λ P S H h. within-below j (hull-within h)) w
+  pub left-below : (j : ℕ) → All (λ b. b .base < 2 ^ j) (shapeOf blocks) → All (λ b. b .base < 2 ^ j) (shapeOf ys)
+  left-below j = within-below j (ran-within a run)
 
-  -- no block more or less
-  pub final-size : length H ≡ length S
-  unfolding Kept
-  final-size = kept-end (λ B. length B ≡ length S) (λ P A B h e. h .size ∙ e) w refl
+  pub left-right : (w : Width) → All (λ b. b .base < 2 ^ (saidWords w * 64)) (shapeOf blocks) → All (RightBlock w) (shapeOf ys)
+  left-right w below = right-of-sound w (left-below (saidWords w * 64) below) (blocks-sound (standing-first (ran-accepted a run)))
 
--- ---- the sheet of the final shapes is in the grammar, as wide as the one that came in
-
-pub sheet-right : {file : List ℕ} {s : Sheet} {n : ℕ} → FileEnds file (stable s n) → InGrammar (sheetGrammar mostTexts) (sheetParts s)
+-- the sheet of what is left is in the grammar, as wide as the one that came in
+pub sheet-right : {file : List ℕ} {gs : List TextRan} {s : Sheet} → FileEnds file (ran gs s) → InGrammar (sheetGrammar mostTexts) (sheetParts s)
 unfolding sheetParts bookParts
-sheet-right (of-book {b = b} a g (ends-rest {S = S} run)) = go (a .accepts .right)
+sheet-right (of-book {b = b} a g (ends {ys = ys} run listed)) = go (a .accepts .right)
   where
-    go : InGrammar bookGrammar (bookParts b) → InGrammar (sheetGrammar mostTexts) (sheetParts (record { width = b .sheet .width; counts = b .sheet .counts; blocks = S }))
+    go : InGrammar bookGrammar (bookParts b) → InGrammar (sheetGrammar mostTexts) (sheetParts (sheetOf (b .sheet .width) (b .sheet .counts) ys))
     go (one-part t (one-part s r)) =
         let same = shape-words (b .sheet .blocks) in
-        let many = final-size run ∙ ap length same in
+        let many = shape-length ys in
+        let size = run .size in
+        let entered = shape-length (wordsOf (b .sheet .blocks)) in
+        let all = ap length same in
         let few = s .few in
-        let sound = final-sound run (blocks-sound (standing-first g)) in
-        let below = final-below run (saidWords (b .sheet .width) * 64) (subst (All _) (sym same) (all-map (λ c r. r .base) (s .right))) in
-        let blocks : InSection blocksSection (part (Blocks (b .sheet .width)) S)
-        = record { heading = s .heading; few = omega arith; right = right-of-sound (b .sheet .width) below sound } in
+        let blocks : InSection blocksSection (part (Blocks (b .sheet .width)) (shapeOf ys))
+        = record { heading = s .heading; few = omega arith; right = left-right g run (b .sheet .width) (subst (All _) (sym same) (all-map (λ c r. r .base) (s .right))) } in
         one-part t (one-part blocks no-part)
 
 -- ---- one end
 
-pub book-ends-one : {k : Width} {counts blocks rules : List ℕ} {v w : Verdict} → BookEnds k counts blocks rules v → BookEnds k counts blocks rules w → v ≡ w
-book-ends-one {k = k} {counts = counts} (ends-rest p) (ends-rest q) = let one = walk-one p q in λ i. stable (record { width = k; counts = counts; blocks = same-shapes (one .0) i }) (one .1 i)
-book-ends-one (ends-rest p) (fails q) = absurd (not-none (sym (walk-one p q .0)))
-book-ends-one (fails p) (ends-rest q) = absurd (not-none (walk-one p q .0))
-book-ends-one (fails p) (fails q) = ap in-none (walk-one p q .1)
+pub book-ends-one : {k : Width} {counts blocks rules : List ℕ} {work : ℕ} {v w : Verdict} → BookAccepted counts blocks rules work
+    → BookEnds k counts blocks rules v → BookEnds k counts blocks rules w → v ≡ w
+book-ends-one {k = k} {counts = counts} a (ends {ys = ys} {es = es} {gs = gs} p g) (ends {gs = hs} q h) =
+    let one = book-ran-one (a .counted .whole-blocks) p q in
+    let same : gs ≡ hs = groups-one g (subst (λ (l : List TextRan). GroupsIn 1 l hs) (sym (one .0)) h) in
+    λ i. ran (same i) (sheetOf k counts (one .1 i))
 
 -- a file is the writing of one book, so what holds of the numbers of one holds of those of the other
 pub same-book : {file : List ℕ} {b c : Book} (P : Width → List ℕ → List ℕ → List ℕ → Type 0) → FileAccepted file b → FileAccepted file c
@@ -119,34 +95,39 @@ file-ends-one (wrong-book a p) (wrong-book {t = t} d q) = ap refused (book-one p
 file-ends-one (wrong-book a p) (of-book d h q) = absurd (book-not p (same-book (λ k c w r. BookAccepted c w r 63001) a d h))
 file-ends-one {file = file} (of-book a g p) (no-book q) = absurd (not-both file _ _ a q)
 file-ends-one (of-book a g p) (wrong-book {t = t} d q) = absurd (book-not (same-book (λ k c w r. BookRefused c w r 63001 t) a d q) g)
-file-ends-one {w = v} (of-book a g p) (of-book d h q) = book-ends-one p (same-book (λ k c w r. BookEnds k c w r v) a d q)
+file-ends-one {w = v} (of-book a g p) (of-book d h q) = book-ends-one g p (same-book (λ k c w r. BookEnds k c w r v) a d q)
 
 -- ---- what the run of a book's numbers comes to
-
--- (blocks′ and work′ are what it leaves in the blocks and in the work buffer.)
-
--- the final shapes can be written as wide as the entered ones
-abbrev pub ComesTo : Width → List ℕ → List ℕ → List ℕ → List ℕ → List ℕ → List ℕ → Ran → Type 0
-ComesTo k counts blocks rules work blocks′ work′ (is-refused r) = BookRefused counts blocks rules (length work) (told r) × (work′ ≡ work)
-ComesTo k counts blocks rules work blocks′ work′ (is-none m) =
-    BookAccepted counts blocks rules (length work) × BookEnds k counts blocks rules (in-none m) × Cleared work work′
-ComesTo k counts blocks rules work blocks′ work′ (is-stable m) =
-    BookAccepted counts blocks rules (length work) × BookEnds k counts blocks rules (stable (sheetOf k counts blocks′) m) × Cleared work work′ × All (RightBlock k) (shapeOf blocks′)
-
-pub comes-to : (k : Width) (counts blocks rules work blocks′ work′ : List ℕ) (r : Ran) → All (RightBlock k) (shapeOf blocks) → RunPromise counts blocks rules work blocks′ work′ r
-    → ComesTo k counts blocks rules work blocks′ work′ r
-comes-to k counts blocks rules work blocks′ work′ (is-refused r) said p = (p .0, p .2)
-comes-to k counts blocks rules work blocks′ work′ (is-none m) said p = (p .0 .accepted, fails (p .0 .run), p .1)
-comes-to k counts blocks rules work blocks′ work′ (is-stable m) said p =
-    let same : p .0 .final ≡ shapeOf blocks′ = sym (ap shapeOf (p .0 .left) ∙ shape-words (p .0 .final)) in
-    let sound = final-sound (p .0 .run) (blocks-sound (standing-first (p .0 .accepted))) in
-    let run = subst (λ (S : List Block). BookRun counts blocks rules (shapes S) m) same (p .0 .run) in
-    let below = final-below (p .0 .run) (saidWords k * 64) (all-map (λ b r. r .base) said) in
-    (p .0 .accepted, ends-rest run, p .1, subst (All (RightBlock k)) same (right-of-sound k below sound))
 
 -- an accepted book has at most 256 blocks
 pub few-numbers : (counts blocks rules : List ℕ) (work : ℕ) → BookAccepted counts blocks rules work → blockCount blocks ≤ bookBlocks
 few-numbers counts blocks rules work a = let e = a .counted .whole-blocks in let h = few-blocks counts (a .counted .each) (a .counted .few-texts) in omega arith
+
+-- (blocks′ is what it leaves in the blocks, row the answer's records)
+
+pub record ComesTo (k : Width) (counts blocks rules : List ℕ) (work : ℕ) (blocks′ : List ℕ) (row : List TextRan) : Type 0 where
+  pub few-texts : length counts ≤ mostTexts
+  pub few-blocks : blockCount blocks′ ≤ bookBlocks
+  pub full : length row ≡ mostTexts
+  pub right : All (RightBlock k) (shapeOf blocks′)
+  pub ends-so : {gs : List TextRan} → GroupsIn 1 (take (length counts) row) gs → BookEnds k counts blocks rules (ran gs (sheetOf k counts blocks′))
+
+pub comes-to : {k : Width} {counts blocks rules : List ℕ} {work : ℕ} {blocks′ : List ℕ} {row : List TextRan} → All (RightBlock k) (shapeOf blocks)
+    → BookAccepted counts blocks rules work → RowRan counts blocks rules blocks′ row → ComesTo k counts blocks rules work blocks′ row
+comes-to {k} {counts} {blocks} {rules} {work} {blocks′} {row} said a p =
+    let es = p .texts in
+    let many = p .ran .each-text in
+    let few = a .counted .few-texts in
+    let size = p .ran .size in
+    let entered = few-numbers counts blocks rules work a in
+    let front : take (length counts) row ≡ es = ap (take (length counts)) (p .row-is) ∙ take-at es (replicate (mostTexts - length es) noText) (length counts) many in
+    record {
+      few-texts = few;
+      few-blocks = omega arith;
+      full = row-length p few;
+      right = left-right a (p .ran) k (all-map (λ b r. r .base) said);
+      ends-so = λ {gs} g. ends (p .ran) (subst (λ (l : List TextRan). GroupsIn 1 l gs) front g);
+    }
 
 -- ---- what the run of the numbers that a file was read into promises of the file
 

@@ -1,10 +1,10 @@
 -- A run with a lent work buffer beside the run with one of its own: with 63,001 bytes or more they are the same; with
 -- fewer, 4 comes in the place of a report and of 5. And 5 comes only where nothing else is due. Assumes nothing.
 use mathlib.Core.Path.{_≡_, refl, sym, ap, _∙_}
-use mathlib.Core.List.{List}
+use mathlib.Core.List.{List, map}
 use Prim.Native.Nat.{ℕ, _≤_, _<_}
 use native.Mathlib.Omega.{arith}
-use lib.ListN.{length, take, drop}
+use lib.ListN.{length, take, drop, length-append}
 use lib.Seq.{take-at, drop-at}
 use Rattle.answers.specs.Told.{Told, tell, told}
 use Rattle.answers.specs.Turns.{here, later}
@@ -16,11 +16,11 @@ use Rattle.shapes.specs.Lent.{wordsOf}
 use Rattle.shapes.proofs.Refused.{blocks-tells}
 use Rattle.books.specs.Refused.{BookRefused, BookAccepted}
 use Rattle.books.proofs.Refused.{rule-tells}
-use Rattle.file_lines.specs.Grammar.{headLine, joined}
-use Rattle.file_lines.specs.Book.{Book, fileLimit}
+use Rattle.file_lines.specs.Grammar.{headLine, joined, partLines, linesOf, writing}
+use Rattle.file_lines.specs.Book.{Book, sheetParts, fileLimit}
 use Rattle.files.specs.Departs.{FileRefused, FileAccepted}
-use Rattle.file_reports.specs.Report.{Verdict, refusedLine, headOf, reportOf, Reported}
-use Rattle.file_reports.specs.Report.Verdict.{stable, none, refused}
+use Rattle.file_reports.specs.Report.{Verdict, refusedLine, groupLine, headOf, sheetAfter, reportOf, Reported}
+use Rattle.file_reports.specs.Report.Verdict.{ran, refused}
 use Rattle.rules.specs.Rule.{numbersOfAll}
 use Rattle.file_runs.specs.Ends.{FileEnds}
 use Rattle.file_runs.specs.Promise.{Report, RunRefused, FileAnswer, LentPromise, FilePromise}
@@ -119,7 +119,6 @@ report-bytes p q =
 
 -- a report has a byte at least
 pub some-bytes : (v : Verdict) → 0 < length (reportOf v)
-unfolding reportOf headOf headLine joined refusedLine
-some-bytes (stable s n) = omega arith
-some-bytes (none n) = omega arith
+unfolding reportOf headOf sheetAfter headLine joined refusedLine writing linesOf partLines sheetParts
+some-bytes (ran gs s) = let e = length-append (joined (map groupLine gs)) (writing (sheetParts s)) in omega arith
 some-bytes (refused t) = omega arith

@@ -1,24 +1,22 @@
--- Document 01, "A book and its run", and document 02, order 10: how the run of a book file ends.
+-- Document 01, "A book and its run", and document 02, orders 10 and 11: how the run of a book file ends.
 use mathlib.Core.List.{List}
 use Prim.Native.Nat.{ℕ}
 use Rattle.answers.specs.Told.{Told}
-use Rattle.shapes.specs.Shape.{Block}
+use Rattle.answers.specs.declared.TextRan.{TextRan}
 use Rattle.shapes.specs.Lent.{wordsOf}
-use Rattle.hulls.specs.Hull.{none, shapes}
 use Rattle.books.specs.Refused.{BookRefused, BookAccepted}
-use Rattle.book_runs.specs.Rounds.{BookRun}
+use Rattle.groups.specs.Ends.{BookRan, GroupsIn}
 use Rattle.rules.specs.Rule.{numbersOfAll}
 use Rattle.file_lines.specs.declared.Width.{Width}
-use Rattle.file_lines.specs.Book.{Book}
+use Rattle.file_lines.specs.Book.{Book, sheetOf}
 use Rattle.files.specs.Departs.{FileRefused, FileAccepted}
 use Rattle.file_reports.specs.Report.{Verdict}
-use Rattle.file_reports.specs.Report.Verdict.{stable, none as in-none, refused}
+use Rattle.file_reports.specs.Report.Verdict.{ran, refused}
 
--- How the run of an accepted book ends, by document 01's steps: with the final shapes, as wide as the book's, or in
--- none.
+-- How the run of an accepted book ends: with the groups by number, and the sheet of what is left of its texts, as wide
+-- as the book's.
 pub data BookEnds (w : Width) (counts blocks rules : List ℕ) : Verdict → Type 0 where
-  rests : {S : List Block} {m : ℕ} → BookRun counts blocks rules (shapes S) m → BookEnds w counts blocks rules (stable (record { width = w; counts = counts; blocks = S }) m)
-  fails : {m : ℕ} → BookRun counts blocks rules none m → BookEnds w counts blocks rules (in-none m)
+  ends : {ys : List ℕ} {es gs : List TextRan} → BookRan counts blocks rules ys es → GroupsIn 1 es gs → BookEnds w counts blocks rules (ran gs (sheetOf w counts ys))
 
 -- How a file ends: it is refused with 9 or 8; otherwise it is the writing of a book, which has all the work space it
 -- wants, and is refused or run.

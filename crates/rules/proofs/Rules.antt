@@ -1,16 +1,16 @@
 -- The numbers of some rules and the rules of some numbers undo each other. Assumes nothing.
-use mathlib.Core.Path.{_≡_, refl, ap, ap₂, _∙_}
+use mathlib.Core.Path.{_≡_, refl, sym, ap, ap₂, _∙_}
 use mathlib.Core.List.{List, [], _∷_, map}
-use Prim.Native.Nat.{ℕ, _*_, _%_}
+use Prim.Native.Nat.{ℕ, _*_, _%_, _<_}
 use native.Mathlib.Omega.{arith}
-use lib.ListN.{length, length-map}
+use lib.ListN.{length, getD, length-map, List·getD-map}
 use lib.Seq.{take-all}
 use Rattle.plain.specs.All.{All}
 use Rattle.plain.specs.All.All.{none, more}
 use Rattle.plain.specs.Items.{itemsOf, joinItems}
-use Rattle.plain.proofs.Items.{numbers-taken, items-length, items-sized, items-back, join-back, join-length}
+use Rattle.plain.proofs.Items.{numbers-taken, items-length, items-at, items-sized, items-back, join-back, join-length}
 use Rattle.rules.specs.declared.Rule.{Rule}
-use Rattle.rules.specs.Rule.{ruleSize, ruleCount, ruleFrom, ruleNumbers, numbersOfAll, rulesOf}
+use Rattle.rules.specs.Rule.{ruleSize, ruleCount, ruleAt, ruleWith, ruleFrom, ruleNumbers, numbersOfAll, rulesOf}
 
 pub rules-length : (xs : List ℕ) → length (rulesOf xs) ≡ ruleCount xs
 unfolding rulesOf
@@ -33,6 +33,21 @@ rules-numbers rs =
     each : (rs : List Rule) → map ruleFrom (map ruleNumbers rs) ≡ rs
     each [] = refl
     each (r ∷ rs) = ap (λ (l : List Rule). r ∷ l) (each rs)
+
+pub numbers-count : (rs : List Rule) → ruleCount (numbersOfAll rs) ≡ length rs
+numbers-count rs = let e = numbers-length rs in omega arith
+
+-- one of them by its number; past the last there is no rule
+abbrev pub noRule : Rule
+noRule = ruleWith 0 0 0 0
+
+pub rules-at : (xs : List ℕ) (j : ℕ) → j < ruleCount xs → getD (rulesOf xs) j noRule ≡ ruleAt xs j
+unfolding rulesOf
+rules-at xs j h = List·getD-map ruleFrom (itemsOf ruleSize (ruleCount xs) xs) j [] ∙ ap ruleFrom (items-at ruleSize (ruleCount xs) xs j [] h)
+
+pub numbers-at : (rs : List Rule) (j : ℕ) → j < length rs → ruleAt (numbersOfAll rs) j ≡ getD rs j noRule
+numbers-at rs j h =
+    let e = numbers-count rs in sym (rules-at (numbersOfAll rs) j (omega arith)) ∙ ap (λ (l : List Rule). getD l j noRule) (rules-numbers rs)
 
 -- of whole rules
 pub numbers-rules : (xs : List ℕ) → length xs % ruleSize ≡ 0 → numbersOfAll (rulesOf xs) ≡ xs

@@ -1,13 +1,16 @@
 // Runs the books of the standard input, one to a line, and writes a line for each. The second program makes the input
 // and the output that is wanted.
 //
-//     B k c w .. b w .. r w ..    stable applications blocks work z e | none applications blocks work z e
-//                                 | refused number text place blocks work z e
+//     B k c w .. b w .. r w ..    accepted texts blocks work z e | refused number text place texts blocks work z e
 //
 // A work buffer of k bytes, c block counts, b numbers of blocks and r numbers of rules. The numbers of a line are hex,
 // and so are those of the blocks, all of which are shown as they are after the call; z and e count the bytes 0 that the
-// work buffer begins with and the untouched ones at its end.
+// work buffer begins with and the untouched ones at its end. The texts are eight records, each the name of the text's
+// group, stable or none, and the applications made.
+use answers::Checked;
+use answers::Ended;
 use answers::Ran;
+use answers::TextRan;
 use test_lines::fields::copy_numbers;
 use test_lines::fields::first_list;
 use test_lines::fields::later_lists;
@@ -68,15 +71,35 @@ fn book_line(counts: &[u64], blocks: &mut [u64], rules: &[u64], work: &mut [u8])
 }
 
 fn ran(answer: Ran) {
-    match answer {
-        Ran::Stable(applications) => {
-            io::write_all(1, b"stable ");
+    let checked = answer.checked;
+    let texts = answer.texts;
+    match checked {
+        Checked::Sound => {
+            io::write_all(1, b"accepted");
+        }
+        Checked::Refused(r) => {
+            show::refused(r);
+        }
+    }
+    let mut k = 0;
+    while k < 8 {
+        text(texts[k]);
+        k += 1;
+    }
+}
+
+fn text(record: TextRan) {
+    let ended = record.ended;
+    io::write_all(1, b" ");
+    io::print_decimal(1, record.group);
+    match ended {
+        Ended::Stable(applications) => {
+            io::write_all(1, b" stable ");
             io::print_decimal(1, applications);
         }
-        Ran::None(applications) => {
-            io::write_all(1, b"none ");
+        Ended::None(applications) => {
+            io::write_all(1, b" none ");
             io::print_decimal(1, applications);
         }
-        Ran::Refused(r) => show::refused(r),
     }
 }

@@ -1,0 +1,2 @@
+-- The laws of the call that runs a book.
+pub mod Determined

@@ -1,0 +1,2 @@
+-- What the call that runs a book promises.
+pub mod Promise

@@ -1,0 +1,2 @@
+-- The laws of the run by groups.
+pub mod Turns

@@ -1,0 +1,2 @@
+-- The run of a book, group by group.
+pub mod Turn

@@ -1,0 +1,1 @@
+// Groups of the texts that rules link: definitions and laws alone, no code.
