@@ -1,9 +1,12 @@
 // The answers of the calls, and what a refusal tells: number, text and place.
+
+#![tactic(auto)]
+
 ghost use Rattle.std.specs.Prelude.{◌≡◌};
 ghost use Rattle.answers.specs.Told.{told};
 
 // Why a call was refused, with the shape's, range's, block's, output's, rule's or line's number, each from 1.
-#[derive(Drop)]
+#[derive(Clone, Copy)]
 pub enum Refusal {
     Length(u64),
     Crossed(u64, u64),
@@ -23,14 +26,14 @@ pub enum Refusal {
 }
 
 // Whether a shape is one.
-#[derive(Drop)]
+#[derive(Clone, Copy)]
 pub enum Checked {
     Sound,
     Refused(Refusal),
 }
 
 // Whether a text fits a shape.
-#[derive(Drop)]
+#[derive(Clone, Copy)]
 pub enum Fit {
     Fits,
     Unfit,
@@ -38,7 +41,7 @@ pub enum Fit {
 }
 
 // A text written to an output: its length.
-#[derive(Drop)]
+#[derive(Clone, Copy)]
 pub enum Written {
     Text(usize),
     Refused(Refusal),
@@ -46,7 +49,7 @@ pub enum Written {
 
 // What the quick sweep finds: places, written to the output, or that there cannot be a common text; each with the looks
 // made.
-#[derive(Drop)]
+#[derive(Clone, Copy)]
 pub enum Swept {
     Places(u64),
     Cannot(u64),
@@ -54,7 +57,7 @@ pub enum Swept {
 }
 
 // The verdict of the quick sweep on a pair of a tray.
-#[derive(Drop)]
+#[derive(Clone, Copy)]
 pub enum SweepVerdict {
     Places,
     Cannot,
@@ -62,21 +65,21 @@ pub enum SweepVerdict {
 }
 
 // The answer record of a pair of a tray: the verdict, with its refusal, and the looks made, 0 where it is refused.
-#[derive(Drop)]
+#[derive(Clone, Copy)]
 pub struct AnswerRecord {
     pub verdict: SweepVerdict,
     pub looks: u64,
 }
 
 // How the call on a whole tray ends: each pair has its answer record, or none has.
-#[derive(Drop)]
+#[derive(Clone, Copy)]
 pub enum Tray {
     Judged,
     Refused(Refusal),
 }
 
 // What narrowing finds: the narrowed shapes, written to the outputs, or that no pair of texts satisfies the relation.
-#[derive(Drop)]
+#[derive(Clone, Copy)]
 pub enum Narrowed {
     Narrow,
     None,
@@ -84,7 +87,7 @@ pub enum Narrowed {
 }
 
 // The earliest common text of two shapes, written to an output: its length; or that no text fits both.
-#[derive(Drop)]
+#[derive(Clone, Copy)]
 pub enum Shown {
     Text(usize),
     None,
@@ -92,7 +95,7 @@ pub enum Shown {
 }
 
 // How a run of rules ends: with stable shapes or in none; each with the applications made.
-#[derive(Drop)]
+#[derive(Clone, Copy)]
 pub enum Ended {
     Stable(u64),
     None(u64),
@@ -100,28 +103,28 @@ pub enum Ended {
 
 // What the run of a book answers of a text: the name of its group, and how the group ends. Past the last text, and
 // where the book is refused, the name is 0, stable with no applications.
-#[derive(Drop)]
+#[derive(Clone, Copy)]
 pub struct TextRan {
     pub group: u64,
     pub ended: Ended,
 }
 
 // How the run of a book ends: it is accepted or refused; then a record for each text, and up to eight of no text.
-#[derive(Drop)]
+#[derive(Clone, Copy)]
 pub struct Ran {
     pub checked: Checked,
     pub texts: [TextRan; 8],
 }
 
 // A character index in a text, from 1: neither a length, nor an offset, nor a block's number.
-#[derive(Drop)]
+#[derive(Clone, Copy)]
 pub struct Index {
     pub at: u64,
 }
 
 // Where a mark first starts in the texts of a shape: in none of them, or in some, or in all, each with the least and
 // the greatest index.
-#[derive(Drop)]
+#[derive(Clone, Copy)]
 pub enum Sought {
     Nowhere,
     InSome(Index, Index),

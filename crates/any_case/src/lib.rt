@@ -1,4 +1,7 @@
 // Exact narrowing of two shapes under equality in which letters of either case are the same.
+
+#![tactic(auto)]
+
 ghost use Rattle.std.specs.Prelude.{◌≤◌, length};
 ghost use Rattle.shapes.specs.Lent.{Whole};
 ghost use Rattle.texts.specs.Case.{AnyCase};

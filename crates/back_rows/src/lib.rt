@@ -1,4 +1,7 @@
 // One row of equality's second pass, in four words or in one.
+
+#![tactic(auto)]
+
 ghost use Rattle.std.specs.Prelude.{◌≡◌, ◌+◌, ◌≤◌, ◌<◌};
 ghost use Rattle.sets.specs.Set.{set_of};
 ghost use Rattle.shapes.specs.Lent.{meant};
@@ -13,7 +16,7 @@ use shapes::Block;
 
 // What is gathered on the way back: the row, where the block at hand takes characters beside Y, where runs of Y end
 // early; of X, where its runs end early and where it takes a character.
-#[derive(Drop)]
+#[derive(Clone, Copy)]
 pub struct Gathered {
     pub row: Set,
     pub used: Set,

@@ -1,5 +1,8 @@
 // The calls as C functions on numbers, for the benchmark and for the measuring of stack: an answer becomes a number, a
 // refusal 1000 or more.
+
+#![tactic(auto)]
+
 ghost use Rattle.std.specs.Prelude.{◌+◌, ◌≤◌, ◌<◌, length};
 
 use answers::{

@@ -1,4 +1,7 @@
 // A book checked and run.
+
+#![tactic(auto)]
+
 ghost use Rattle.book_calls.specs.Promise.{RunPromise};
 
 use answers::{Checked, Ran};

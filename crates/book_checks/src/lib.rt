@@ -1,5 +1,8 @@
 // Which lent numbers are a book of rules, and why others are refused: the counts, the texts, the rules, the work
 // buffer.
+
+#![tactic(auto)]
+
 ghost use Rattle.std.specs.Prelude.{◌≡◌};
 ghost use Rattle.plain.specs.Tells.{Tells};
 ghost use Rattle.shapes.specs.Lent.{shape_of};

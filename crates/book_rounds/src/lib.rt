@@ -1,4 +1,7 @@
 // Rules applied in their order, round after round, until one says none or a round changes nothing.
+
+#![tactic(auto)]
+
 ghost use Rattle.std.specs.Prelude.{◌<◌};
 ghost use Rattle.rules.specs.Rule.{rule_count};
 ghost use Rattle.book_steps.specs.Step.{Running, AppliedSays};

@@ -1,4 +1,7 @@
 // Whether a rule of a book is right. The numbers may be any.
+
+#![tactic(auto)]
+
 ghost use Rattle.plain.specs.Tells.{Tells};
 ghost use Rattle.books.specs.Rules.{Names, RightFourth, RightRule};
 

@@ -1,5 +1,8 @@
 // One application of a rule: what it does to the numbers of all texts, and how a text's new numbers are laid over its
 // old ones.
+
+#![tactic(auto)]
+
 ghost use Rattle.std.specs.Prelude.{◌≡◌, true, ◌*◌, ◌≤◌, length, take};
 ghost use Rattle.plain.specs.Tells.{Tells};
 ghost use Rattle.laying.specs.Laid.{replaced};
@@ -10,7 +13,7 @@ ghost use Rattle.books.specs.Rules.{Names};
 ghost use Rattle.rules.specs.Limits.{most_texts};
 
 // What one application of a rule does to the numbers so far.
-#[derive(Drop)]
+#[derive(Clone, Copy)]
 pub enum Applied {
     None,
     Same,

@@ -1,4 +1,7 @@
 // The counts of a book, and its texts one by one: whether they are right, and why not.
+
+#![tactic(auto)]
+
 ghost use Rattle.std.specs.Prelude.{◌≡◌, ◌*◌, ◌≤◌, length};
 ghost use Rattle.plain.specs.Tells.{Tells};
 ghost use Rattle.plain.specs.All.{All};

@@ -1,4 +1,7 @@
 // A book of rules: what it is, why lent numbers are none, and where its texts stand.
+
+#![tactic(auto)]
+
 ghost use Rattle.std.specs.Prelude.{◌≡◌, ◌≤◌, length, take};
 ghost use Rattle.plain.specs.All.{All};
 ghost use Rattle.rules.specs.Limits.{most_texts};
@@ -7,7 +10,7 @@ ghost use Rattle.books.specs.Rules.{Names};
 ghost use Rattle.books.specs.Code.{RangeOf};
 
 // Where the numbers of a text begin, and where they end.
-#[derive(Drop)]
+#[derive(Clone, Copy)]
 pub struct Range {
     pub from: usize,
     pub to: usize,

@@ -1,5 +1,8 @@
 // What climbs and what falls through numbers without a gap: up by what a sum of sets carries, down by steps twice as
 // far each time. And sets of one word.
+
+#![tactic(auto)]
+
 ghost use Rattle.std.specs.Prelude.{◌≡◌, ◌+◌, ◌*◌, ◌/◌, ◌%◌, ◌^◌, ◌<◌, ◌≤◌, true, false, length, take, bit_and, bit_xor};
 ghost use Rattle.bases.specs.Base.{Empty, Meets};
 ghost use Rattle.plain.specs.Tells.{Tells};
@@ -9,7 +12,7 @@ ghost use Rattle.carries.specs.Climb.{Climbs, Falls, FallsFrom, Spans};
 use sets::Set;
 
 // A word of a sum, and what it carries on.
-#[derive(Drop)]
+#[derive(Clone, Copy)]
 struct Added {
     word: u64,
     carry: u64,

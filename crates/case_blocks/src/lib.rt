@@ -1,4 +1,7 @@
 // Blocks with both cases of each of their letters, and what comes of them cut with the blocks themselves.
+
+#![tactic(auto)]
+
 ghost use Rattle.std.specs.Prelude.{◌≤◌, length};
 ghost use Rattle.shapes.specs.Shape.{block_count};
 ghost use Rattle.case_blocks.specs.Code.{WidenedTo, CutTo};

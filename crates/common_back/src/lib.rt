@@ -1,5 +1,8 @@
 // The pass from the ends that keeps its rows: for each position of one shape the row of the positions of the other from
 // which one text leads both to their ends.
+
+#![tactic(auto)]
+
 ghost use Rattle.std.specs.Prelude.{◌≡◌, ◌≤◌, length};
 ghost use Rattle.shapes.specs.Lent.{Whole};
 ghost use Rattle.rows.specs.Row.{table_size, row_count};

@@ -1,4 +1,7 @@
 // The call for the earliest common text of two shapes: the refusals of a pair first, then the work.
+
+#![tactic(auto)]
+
 ghost use Rattle.common_calls.specs.Common.{ShowChecked, ShowPromise};
 
 use answers::{Checked, Refusal, Shown};

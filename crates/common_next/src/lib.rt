@@ -1,4 +1,7 @@
 // One character more of a common text: which is the least that may come, and to which positions it leads.
+
+#![tactic(auto)]
+
 ghost use Rattle.std.specs.Prelude.{◌≡◌, true, List, ℕ, ◌+◌, ◌<◌};
 ghost use Rattle.bases.specs.Base.{Holds};
 ghost use Rattle.sets.specs.Set.{set_of, Exactly};
@@ -15,7 +18,7 @@ use sets::Set;
 
 // Where the text so far leads in one shape, where its last character may stand in it, where its runs may end, and where
 // they then are.
-#[derive(Drop)]
+#[derive(Clone, Copy)]
 pub struct Front {
     pub row: Set,
     pub takes: Set,

@@ -1,4 +1,7 @@
 // The earliest common text of two shapes, in room of its own.
+
+#![tactic(auto)]
+
 ghost use Rattle.std.specs.Prelude.{◌≤◌, length};
 ghost use Rattle.shapes.specs.Lent.{Whole};
 ghost use Rattle.common_texts.specs.Earliest.{ShowAnswer};

@@ -1,4 +1,7 @@
 // The earliest common text of two shapes: its first character, then the earliest text of what remains.
+
+#![tactic(auto)]
+
 ghost use Rattle.std.specs.Prelude.{◌≡◌, ◌≤◌, length};
 ghost use Rattle.shapes.specs.Shape.{total};
 ghost use Rattle.shapes.specs.Lent.{shape_of};

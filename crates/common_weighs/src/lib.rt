@@ -1,4 +1,7 @@
 // The positions of one block weighed: the least character that may come next in both shapes, and where it is taken.
+
+#![tactic(auto)]
+
 ghost use Rattle.std.specs.Prelude.{◌≡◌, ℕ, ◌+◌, ◌<◌, length};
 ghost use Rattle.bases.specs.Base.{Holds};
 ghost use Rattle.sets.specs.Set.{set_of};
@@ -11,14 +14,14 @@ ghost use Rattle.common_weighs.specs.Code.{Sooner, WeighedBy, WeighedAll};
 use sets::Set;
 
 // The least character that may come next, and the positions that may take part in it.
-#[derive(Drop)]
+#[derive(Clone, Copy)]
 pub struct Chosen {
     pub code: usize,
     pub kept: Set,
 }
 
 // The same while the positions of one block are weighed, with those of the other shape that were seen beside them.
-#[derive(Drop)]
+#[derive(Clone, Copy)]
 pub struct Weighed {
     pub code: usize,
     pub kept: Set,

@@ -1,5 +1,8 @@
 // The earliest text that both shapes can end with, from where they stand, by recursion: its first character, then what
 // remains.
+
+#![tactic(auto)]
+
 ghost use Rattle.std.specs.Prelude.{◌≡◌, ◌≤◌, ◌<◌, length};
 ghost use Rattle.bases.specs.Base.{Holds};
 ghost use Rattle.plain.specs.Tells.{Tells};
@@ -13,7 +16,7 @@ use common_next::Front;
 use sets::Set;
 
 // The positions past all blocks of both shapes.
-#[derive(Drop)]
+#[derive(Clone, Copy)]
 pub struct Totals {
     pub own: usize,
     pub other: usize,

@@ -1,6 +1,9 @@
 // The calls of document 01, and of document 02. None has a duty for its caller: whatever is lent, the call ends,
 // answers or refuses by number, text and place (the one for C by its number alone), and a refusal leaves all lent
 // memory as on entry.
+
+#![tactic(auto)]
+
 use answers::{Checked, Fit, Narrowed, Ran, Shown, Sought, Swept, Written};
 
 // Judges a tray of pairs at once, up to 64, each by the quick sweep of one range of the lent blocks in another, into

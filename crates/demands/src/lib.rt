@@ -1,1 +1,3 @@
 // No code: the user's three demands, stated over the promises of `dashed`.
+
+#![tactic(auto)]

@@ -1,5 +1,8 @@
 // Equality's second pass: rows from the ends, and what both shapes' blocks are given on the way. The padding is a set
 // of characters: none of them, or the blank.
+
+#![tactic(auto)]
+
 ghost use Rattle.std.specs.Prelude.{◌≡◌, ◌+◌, ◌/◌, ◌≤◌, ◌<◌, length, replicate};
 ghost use Rattle.sets.specs.Set.{set_of};
 ghost use Rattle.shapes.specs.Lent.{Whole, meant, shape_of};
@@ -18,7 +21,7 @@ use sets::Set;
 use shapes::Block;
 
 // Where the runs of each shape end early, and where it takes a character.
-#[derive(Drop)]
+#[derive(Clone, Copy)]
 pub struct Ways {
     pub stops: Set,
     pub takes: Set,

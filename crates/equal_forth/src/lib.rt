@@ -1,5 +1,8 @@
 // Equality's first pass: for each position of one shape the row of the positions of the other that one text, but for
 // padding, leads to from the starts. The padding is a set of characters: none of them, or the blank.
+
+#![tactic(auto)]
+
 ghost use Rattle.std.specs.Prelude.{◌≡◌, true, false, ◌+◌, ◌/◌, ◌≤◌, ◌<◌, length};
 ghost use Rattle.sets.specs.Set.{set_of};
 ghost use Rattle.shapes.specs.Lent.{Whole, meant, shape_of};

@@ -1,4 +1,7 @@
 // Narrowing under equality but for padding, in room of its own.
+
+#![tactic(auto)]
+
 ghost use Rattle.std.specs.Prelude.{◌≤◌, ◌<◌, length};
 ghost use Rattle.sets.specs.Set.{set_of};
 ghost use Rattle.shapes.specs.Lent.{Whole, shape_of};

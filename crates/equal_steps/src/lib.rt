@@ -1,4 +1,7 @@
 // One step of equality's passes: where a shape waits at its end, and what one character leads to or comes from.
+
+#![tactic(auto)]
+
 ghost use Rattle.std.specs.Prelude.{◌≡◌, true, false, ◌⊎◌, ◌<◌, ◌≤◌, length};
 ghost use Rattle.std.specs.Int.Bits.{bit_or};
 ghost use Rattle.bases.specs.Base.{Meets, Holds};

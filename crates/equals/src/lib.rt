@@ -1,4 +1,7 @@
 // Exact narrowing of two shapes under equality of their texts, to the letter or but for padding at their ends.
+
+#![tactic(auto)]
+
 ghost use Rattle.std.specs.Prelude.{◌≤◌, length};
 ghost use Rattle.texts.specs.Padding.{Padded};
 ghost use Rattle.shapes.specs.Lent.{Whole};

@@ -1,4 +1,7 @@
 // One step of least and greatest text: what a block chooses where a successor follows it.
+
+#![tactic(auto)]
+
 ghost use Rattle.std.specs.Prelude.{◌≡◌, ◌++◌, ◌+◌, ◌^◌, ◌<◌, drop};
 ghost use Rattle.bases.specs.Base.{Empty, codes};
 ghost use Rattle.sets.specs.Set.{set_of};
@@ -12,14 +15,14 @@ use sets::Set;
 use shapes::Block;
 
 // Which text is wanted.
-#[derive(Drop)]
+#[derive(Clone, Copy)]
 pub enum Direction {
     Least,
     Greatest,
 }
 
 // What follows a block: the end, something just above a character, or just below it.
-#[derive(Drop)]
+#[derive(Clone, Copy)]
 pub enum Successor {
     End,
     Above(u8),
@@ -27,7 +30,7 @@ pub enum Successor {
 }
 
 // What a block chooses: how often it takes its character, and the successor once it has, which tells the character.
-#[derive(Drop)]
+#[derive(Clone, Copy)]
 pub struct Choice {
     pub successor: Successor,
     pub count: u8,

@@ -1,5 +1,8 @@
 // Least and greatest text, by document 01's steps, in two passes from the last block: the length, then the text from
 // its end.
+
+#![tactic(auto)]
+
 ghost use Rattle.std.specs.Prelude.{◌≡◌, ◌++◌, ◌+◌, ◌≤◌, ◌<◌, length, take, drop, replicate};
 ghost use Rattle.shapes.specs.Lent.{shape_of, Accepted};
 ghost use Rattle.extreme_steps.specs.Steps.{extreme};

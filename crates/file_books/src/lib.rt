@@ -1,4 +1,7 @@
 // A book file read: its size, a sheet and the rules, and nothing after them.
+
+#![tactic(auto)]
+
 ghost use Rattle.std.specs.Prelude.{◌*◌, ◌≤◌, length};
 ghost use Rattle.shapes.specs.Shape.{block_size};
 ghost use Rattle.rules.specs.Rule.{rule_size};
@@ -12,7 +15,7 @@ use file_sections::Items;
 use file_sheets::SheetAt;
 
 // How wide its blocks are said, and how many texts, blocks and rules a book has.
-#[derive(Drop)]
+#[derive(Clone, Copy)]
 pub struct Sizes {
     pub width: Width,
     pub texts: usize,
@@ -20,14 +23,14 @@ pub struct Sizes {
     pub rules: usize,
 }
 
-#[derive(Drop)]
+#[derive(Clone, Copy)]
 pub enum Read {
     Book(Sizes),
     Refused(Refusal),
 }
 
 // The rules to the end of the file: how many, or how many lines stand before one departs.
-#[derive(Drop)]
+#[derive(Clone, Copy)]
 pub enum Last {
     Read(usize),
     Departs(u64),

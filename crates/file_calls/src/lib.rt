@@ -1,4 +1,7 @@
 // A book file run to its report.
+
+#![tactic(auto)]
+
 ghost use Rattle.std.specs.Prelude.{◌≡◌, replicate, length};
 ghost use Rattle.plain.specs.All.{All};
 ghost use Rattle.shapes.specs.Lent.{shape_of};

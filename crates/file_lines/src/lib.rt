@@ -1,4 +1,7 @@
 // A book file, read line by line.
+
+#![tactic(auto)]
+
 ghost use Rattle.std.specs.Prelude.{◌≡◌, ◌*◌, ◌≤◌, length, take};
 ghost use Rattle.plain.specs.Tells.{Tells};
 ghost use Rattle.file_lines.specs.Lines.{FoundIn, HeadRead, NumberRead, TwoRead, RuleRead, BaseRead, BlockRead};
@@ -12,14 +15,14 @@ use sets::Set;
 use shapes::Block;
 
 // How much of a base the lines of a section say: under BLOCKS the codes up to 127, under WIDE all.
-#[derive(Drop)]
+#[derive(Clone, Copy)]
 pub enum Width {
     Low,
     Wide,
 }
 
 // What stands under a heading: block counts of texts, blocks of either width, rules.
-#[derive(Drop)]
+#[derive(Clone, Copy)]
 pub enum Heading {
     Texts,
     Blocks(Width),
@@ -30,40 +33,40 @@ pub enum Heading {
 pub const FILE_LIMIT: usize = 32768;
 
 // Where a byte stands first.
-#[derive(Drop)]
+#[derive(Clone, Copy)]
 pub enum Found {
     At(usize),
     Nothing,
 }
 
 // A number at the start of some bytes, and the place past the byte that ends it.
-#[derive(Drop)]
+#[derive(Clone, Copy)]
 pub enum NumberAt {
     Is(u64, usize),
     Not,
 }
 
 // Two numbers, a rule and a block, as a line has them.
-#[derive(Drop)]
+#[derive(Clone, Copy)]
 pub enum Two {
     Is(u64, u64),
     Not,
 }
 
-#[derive(Drop)]
+#[derive(Clone, Copy)]
 pub enum RuleLine {
     Is(Rule),
     Not,
 }
 
-#[derive(Drop)]
+#[derive(Clone, Copy)]
 pub enum BlockLine {
     Is(Block),
     Not,
 }
 
 // A base, as the digits of a line say it.
-#[derive(Drop)]
+#[derive(Clone, Copy)]
 pub enum BaseSaid {
     Is(Set),
     Not,

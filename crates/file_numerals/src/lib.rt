@@ -1,11 +1,14 @@
 // Numbers read from bytes and written as bytes, in ASCII.
+
+#![tactic(auto)]
+
 ghost use Rattle.std.specs.Prelude.{◌≡◌, ◌+◌, ◌≤◌, ◌<◌, length};
 ghost use Rattle.std.proofs.lemmas.List.Edits.{sets};
 ghost use Rattle.file_numerals.specs.Digits.{glyph as Digits·glyph, digits, decimal as Digits·decimal};
 ghost use Rattle.file_numerals.specs.Read.{DigitRead, DecimalRead, WordRead, word_digits};
 
 // What reading a number finds.
-#[derive(Drop)]
+#[derive(Clone, Copy)]
 pub enum Number {
     Is(u64),
     Not,

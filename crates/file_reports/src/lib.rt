@@ -1,4 +1,7 @@
 // The report of a book: its groups and the sheet of what is left, or REFUSED.
+
+#![tactic(auto)]
+
 ghost use Rattle.std.specs.Prelude.{◌≡◌, [], ◌∷◌, map, ◌+◌, ◌*◌, ◌≤◌, ◌<◌, length, take};
 ghost use Rattle.answers.specs.Told.{told};
 ghost use Rattle.plain.specs.All.{All};

@@ -1,5 +1,8 @@
 // How a book file ends, and what running it to its report promises: definitions and laws, and why a book without room
 // is refused.
+
+#![tactic(auto)]
+
 ghost use Rattle.std.specs.Prelude.{◌<◌};
 ghost use Rattle.answers.specs.Told.{told};
 ghost use Rattle.file_lines.specs.Book.{file_limit};

@@ -1,4 +1,7 @@
 // A section of a file: its count, then as many lines, each read into the numbers of the item that it says.
+
+#![tactic(auto)]
+
 ghost use Rattle.std.specs.Prelude.{◌+◌, ◌*◌, ◌≤◌, ◌<◌, length};
 ghost use Rattle.file_lines.specs.Grammar.{word_of, size_of};
 ghost use Rattle.file_lines.specs.Lines.{HeadRead};
@@ -9,21 +12,21 @@ use file_lines::{BlockLine, Found, Heading, NumberAt, RuleLine, Width};
 use file_numerals::Number;
 
 // A line at the start of some bytes: the place past its newline.
-#[derive(Drop)]
+#[derive(Clone, Copy)]
 pub enum LineAt {
     Ends(usize),
     Not,
 }
 
 // The lines of a section: the place past them, or how many stand before one departs.
-#[derive(Drop)]
+#[derive(Clone, Copy)]
 pub enum Lines {
     Read(usize),
     Departs(u64),
 }
 
 // The items of a section: how many and the place past their lines, or how many lines stand before one departs.
-#[derive(Drop)]
+#[derive(Clone, Copy)]
 pub enum Items {
     Read(usize, usize),
     Departs(u64),

@@ -1,4 +1,7 @@
 // A sheet of a file: its texts' block counts and its blocks, one section after the other.
+
+#![tactic(auto)]
+
 ghost use Rattle.std.specs.Prelude.{◌*◌, ◌≤◌, length};
 ghost use Rattle.shapes.specs.Shape.{block_size};
 ghost use Rattle.file_lines.specs.declared.Heading.TheVariants.{Blocks as blocks-heading};
@@ -12,7 +15,7 @@ use file_sections::Items;
 
 // A sheet at the start of some bytes: how wide its blocks are said, how many texts and blocks, and the place past it;
 // or how many lines stand before one departs.
-#[derive(Drop)]
+#[derive(Clone, Copy)]
 pub enum SheetAt {
     Is(Width, usize, usize, usize),
     Departs(u64),

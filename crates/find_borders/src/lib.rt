@@ -1,5 +1,8 @@
 // Where the mark has each of its characters, and with which of its own starts each of its starts ends: a word for each,
 // with a bit for each number.
+
+#![tactic(auto)]
+
 ghost use Rattle.std.specs.Prelude.{◌≡◌, true, ◌⊎◌, ◌<◌, length, get_or};
 ghost use Rattle.bases.specs.Base.{Holds};
 ghost use Rattle.plain.specs.Tells.{Tells};

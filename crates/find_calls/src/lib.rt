@@ -1,4 +1,7 @@
 // Where a mark first occurs in the texts of a shape: the refusals first, then the search.
+
+#![tactic(auto)]
+
 ghost use Rattle.std.specs.Prelude.{◌≡◌, ◌+◌, ◌≤◌, ◌<◌, length};
 ghost use Rattle.shapes.specs.Lent.{Accepted, shape_of};
 ghost use Rattle.find_borders.specs.Borders.{ShortMark};

@@ -1,5 +1,8 @@
 // A shape read for a mark, block by block: the states that some text which lacks the mark ends in, and the lengths at
 // which the mark is complete for the first time.
+
+#![tactic(auto)]
+
 ghost use Rattle.std.specs.Prelude.{◌≡◌, List, [], ◌∷◌, ◌++◌, ◌+◌, ◌≤◌, length};
 ghost use Rattle.sets.specs.Set.{set_of, Exactly};
 ghost use Rattle.shapes.specs.Shape.{Sound, Fits, total};
@@ -16,7 +19,7 @@ use sets::Set;
 use shapes::Block;
 
 // What a search has found so far: the live states, and the lengths at which the mark is complete.
-#[derive(Drop)]
+#[derive(Clone, Copy)]
 pub struct Search {
     pub live: u64,
     pub hits: Set,

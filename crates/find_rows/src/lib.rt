@@ -1,5 +1,8 @@
 // One character of a base more: for each state of the search the row of the lengths of the texts that lack the mark so
 // far, from the rows before it.
+
+#![tactic(auto)]
+
 ghost use Rattle.std.specs.Prelude.{◌≡◌, true, List, ◌⊎◌, ℕ, ◌+◌, ◌≤◌, ◌<◌, length};
 ghost use Rattle.bases.specs.Base.{Holds};
 ghost use Rattle.sets.specs.Set.{set_of, Exactly};

@@ -1,5 +1,8 @@
 // Which character leads from which state of the search to which: words with a bit for each state. A state is how many
 // characters of the mark are matched.
+
+#![tactic(auto)]
+
 ghost use Rattle.std.specs.Prelude.{◌≡◌, ◌+◌, ◌<◌, length, get_or};
 ghost use Rattle.bases.specs.Base.{Holds, Greatest};
 ghost use Rattle.plain.specs.Tells.{Tells};
@@ -12,7 +15,7 @@ use sets::Set;
 
 // The ways that the characters of one base make: the states from which one leads to state 0, and the characters of the
 // mark that are among them.
-#[derive(Drop)]
+#[derive(Clone, Copy)]
 pub struct Ways {
     pub base: Set,
     pub resets: u64,

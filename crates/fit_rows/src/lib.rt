@@ -1,4 +1,7 @@
 // The row of places before a block from the row after it: between lower and upper steps over its characters.
+
+#![tactic(auto)]
+
 ghost use Rattle.std.specs.Prelude.{◌≡◌, List, ◌∷◌, ◌+◌, ◌≤◌, ◌<◌, ℕ, length};
 ghost use Rattle.bases.specs.Base.{Holds};
 ghost use Rattle.sets.specs.Set.{set_of, Exactly};

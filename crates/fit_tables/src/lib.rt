@@ -1,4 +1,7 @@
 // Where each character stands in a text: a row of places for each that occurs.
+
+#![tactic(auto)]
+
 ghost use Rattle.std.specs.Prelude.{◌≡◌, List, ◌+◌, ◌*◌, ◌/◌, ◌≤◌, ◌<◌, ℕ, length, get_or, replicate};
 ghost use Rattle.bases.specs.Base.{codes};
 ghost use Rattle.sets.specs.Set.{set_of, Exactly};

@@ -1,5 +1,8 @@
 // Whether a text fits a shape: for each block, from the last to the first, the row of the places of the text from which
 // the rest fits the blocks from there on.
+
+#![tactic(auto)]
+
 ghost use Rattle.std.specs.Prelude.{◌/◌, ◌≤◌, ◌<◌, length};
 ghost use Rattle.plain.specs.Tells.{Tells};
 ghost use Rattle.sets.specs.Set.{set_of};

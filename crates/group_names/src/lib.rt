@@ -1,4 +1,7 @@
 // The names of a book's groups: the name of text k, from 1, is at k - 1.
+
+#![tactic(auto)]
+
 ghost use Rattle.std.specs.Prelude.{◌≡◌, ℕ, ◌≤◌, length};
 ghost use Rattle.rules.specs.Limits.{most_texts};
 ghost use Rattle.group_names.specs.Names.{TextNumber, RulesOfTexts, TextNumbers, FirstNames, NewName, Renamed, OneName, RuleLinked, GroupNames};

@@ -1,4 +1,7 @@
 // The rules of one group, copied in book order.
+
+#![tactic(auto)]
+
 ghost use Rattle.std.specs.Prelude.{◌≡◌, ◌+◌, ◌*◌, ◌≤◌, ◌<◌, length};
 ghost use Rattle.rules.specs.Rule.{rule_size, rule_at, rule_count};
 ghost use Rattle.rules.specs.Limits.{most_texts};

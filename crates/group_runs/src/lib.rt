@@ -1,4 +1,7 @@
 // The run of a book, group by group.
+
+#![tactic(auto)]
+
 ghost use Rattle.std.specs.Prelude.{◌≡◌, ◌+◌, ◌≤◌, ◌<◌, length};
 ghost use Rattle.rules.specs.Limits.{most_texts};
 ghost use Rattle.book_steps.specs.Step.{Running};

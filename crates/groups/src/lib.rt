@@ -1,1 +1,3 @@
 // Groups of the texts that rules link: definitions and laws alone, no code.
+
+#![tactic(auto)]

@@ -1,4 +1,7 @@
 // The call of a host that is written in C: three slices of bytes in, one number out.
+
+#![tactic(auto)]
+
 ghost use Rattle.host_calls.specs.Host.{HostPromise};
 
 use answers::Written;

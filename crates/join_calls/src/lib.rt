@@ -1,4 +1,7 @@
 // The call that narrows a join: the refusals first, then the work.
+
+#![tactic(auto)]
+
 ghost use Rattle.joins.specs.Join.{JoinPromise};
 
 use answers::{Checked, Narrowed};

@@ -1,4 +1,7 @@
 // The refusals of a join: those of the three shapes, 12, then those of the room.
+
+#![tactic(auto)]
+
 ghost use Rattle.shapes.specs.Lent.{Accepted};
 ghost use Rattle.joins.specs.Refused.{JoinChecked};
 

@@ -1,4 +1,7 @@
 // The line that two shapes make: laid, narrowed against a third shape, and cut again.
+
+#![tactic(auto)]
+
 ghost use Rattle.std.specs.Prelude.{◌≡◌, ◌++◌, ◌+◌, ◌≤◌, length, take, drop};
 ghost use Rattle.shapes.specs.Lent.{Whole};
 ghost use Rattle.walks.specs.Walk.{Same};

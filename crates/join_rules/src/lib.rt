@@ -1,4 +1,7 @@
 // A join: its three texts are narrowed, and what comes of them is laid back over the numbers of all.
+
+#![tactic(auto)]
+
 ghost use Rattle.std.specs.Prelude.{◌≡◌, ◌≤◌, ◌*◌, length};
 ghost use Rattle.texts.specs.Kind.{join_kind};
 ghost use Rattle.shapes.specs.Lent.{shape_of};

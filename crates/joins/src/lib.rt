@@ -1,4 +1,7 @@
 // Exact narrowing of a join: the text of x is that of y followed by that of z.
+
+#![tactic(auto)]
+
 ghost use Rattle.std.specs.Prelude.{◌≤◌, length};
 ghost use Rattle.joins.specs.Refused.{JoinAccepted};
 ghost use Rattle.joins.specs.Join.{JoinAnswer};

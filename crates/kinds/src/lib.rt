@@ -1,4 +1,7 @@
 // Narrowing two texts under the relation of a rule's kind.
+
+#![tactic(auto)]
+
 ghost use Rattle.std.specs.Prelude.{◌≤◌, length};
 ghost use Rattle.texts.specs.Kind.{relation_of, OfTwo};
 ghost use Rattle.pairs.specs.Pair.{PairAccepted};

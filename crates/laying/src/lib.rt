@@ -1,4 +1,7 @@
 // Numbers laid over others, and compared with them.
+
+#![tactic(auto)]
+
 ghost use Rattle.std.specs.Prelude.{◌≡◌, ◌+◌, ◌≤◌, length};
 ghost use Rattle.plain.specs.Tells.{Tells};
 ghost use Rattle.laying.specs.Laid.{replaced};

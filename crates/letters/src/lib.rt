@@ -1,4 +1,7 @@
 // Letters in either case: a base with both cases of each of its letters.
+
+#![tactic(auto)]
+
 ghost use Rattle.sets.specs.Set.{set_of, Exactly};
 ghost use Rattle.letters.specs.Case.{SomeCase};
 ghost use Rattle.letters.specs.Code.{Spread};

@@ -2,6 +2,9 @@
 //
 // Where a read fails nothing is reported, and where a write fails the report may be cut: both are said on the standard
 // error.
+
+#![tactic(auto)]
+
 ghost use Rattle.std.specs.Prelude.{◌≤◌, length};
 ghost use Rattle.file_lines.specs.Book.{file_limit};
 ghost use Rattle.file_runs.specs.Ends.{FileEnds};

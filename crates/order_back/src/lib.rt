@@ -1,5 +1,8 @@
 // An order's second pass, by groups of states at which the guide says the same; and the characters that each block is
 // brought.
+
+#![tactic(auto)]
+
 ghost use Rattle.std.specs.Prelude.{◌≡◌, true, ◌⊎◌, ℕ, ◌+◌, ◌-◌, ◌/◌, ◌≤◌, ◌<◌, length, take};
 ghost use Rattle.bases.specs.Base.{Holds};
 ghost use Rattle.sets.specs.Set.{set_of, Exactly};

@@ -1,4 +1,7 @@
 // One shape narrowed by what is on the right side of a fixed text.
+
+#![tactic(auto)]
+
 ghost use Rattle.std.specs.Prelude.{◌≡◌, ◌/◌, ◌≤◌, length, take};
 ghost use Rattle.sets.specs.Set.{set_of};
 ghost use Rattle.shapes.specs.Shape.{text_of, total, block_count, most_blocks};
@@ -16,7 +19,7 @@ use order_states::Gathered;
 use sets::Set;
 
 // Where a run may end early, and where a character may be taken.
-#[derive(Drop)]
+#[derive(Clone, Copy)]
 struct Places {
     quit: Set,
     moved: Set,

@@ -1,5 +1,8 @@
 // An order's first pass: for each number of matched characters of a fixed text the row of the positions that some text
 // leads to.
+
+#![tactic(auto)]
+
 ghost use Rattle.std.specs.Prelude.{◌≡◌, ◌-◌, ◌/◌, ◌≤◌, ◌<◌, length, take};
 ghost use Rattle.sets.specs.Set.{set_of, Exactly};
 ghost use Rattle.shapes.specs.Lent.{block_at};

@@ -1,5 +1,8 @@
 // The states of an order's second pass, from the last to the first: where texts on the right side end a run early, take
 // a character, or part from the fixed text.
+
+#![tactic(auto)]
+
 ghost use Rattle.std.specs.Prelude.{◌≡◌, ◌≤◌};
 ghost use Rattle.sets.specs.Set.{set_of};
 ghost use Rattle.rows.specs.Row.{row_in, row_count};
@@ -12,7 +15,7 @@ use sets::Set;
 
 // Positions by what their base is to the guide at a state: it holds the next character, or one that parts from it, or
 // all is read or it does.
-#[derive(Drop)]
+#[derive(Clone, Copy)]
 pub struct Sorts {
     pub same: Set,
     pub apart: Set,
@@ -21,7 +24,7 @@ pub struct Sorts {
 
 // Positions from which some rest is on the right side at the first of some states; and where, at any of them, a run
 // ends early, the next character is taken, and a text parts.
-#[derive(Drop)]
+#[derive(Clone, Copy)]
 pub struct Gathered {
     pub clear: Set,
     pub quit: Set,

@@ -1,4 +1,7 @@
 // Narrowing under "at most" and "before": for each side only one text of the other matters.
+
+#![tactic(auto)]
+
 ghost use Rattle.std.specs.Prelude.{◌≡◌, true, false, ◌≤◌, length, replicate};
 ghost use Rattle.shapes.specs.Shape.{text_of};
 ghost use Rattle.shapes.specs.Lent.{shape_of, Accepted};

@@ -1,5 +1,8 @@
 // A shape laid out in rows and read over padding, while another shape has ended and waits: forwards from a row, and
 // backwards from its end.
+
+#![tactic(auto)]
+
 ghost use Rattle.std.specs.Prelude.{◌≡◌, ◌≤◌};
 ghost use Rattle.sets.specs.Set.{set_of, Exactly};
 ghost use Rattle.shapes.specs.Lent.{Whole, shape_of};
@@ -64,7 +67,7 @@ pub fn trail(
 
 // The positions of a shape from which padding leads to its end; those at which its run may end on the way; those at
 // which it takes padding.
-#[derive(Drop)]
+#[derive(Clone, Copy)]
 pub struct Tail {
     pub row: Set,
     pub quit: Set,

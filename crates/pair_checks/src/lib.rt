@@ -1,4 +1,7 @@
 // All refusals of narrowing a pair: those of the shapes, then those of the room.
+
+#![tactic(auto)]
+
 ghost use Rattle.pairs.specs.Pair.{PairAccepted, NarrowChecked};
 
 use answers::{Checked, Refusal};

@@ -1,4 +1,7 @@
 // The refusals of a pair of shapes, in their order; and the work buffer cleared.
+
+#![tactic(auto)]
+
 ghost use Rattle.std.specs.Prelude.{◌≤◌, length};
 ghost use Rattle.pairs.specs.Narrow.{Cleared};
 ghost use Rattle.pairs.specs.Pair.{PairChecked};

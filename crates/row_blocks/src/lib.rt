@@ -1,4 +1,7 @@
 // A shape's blocks, written as sets of its positions tell of them.
+
+#![tactic(auto)]
+
 ghost use Rattle.std.specs.Prelude.{◌+◌, ◌/◌, ◌≤◌, length};
 ghost use Rattle.shapes.specs.Shape.{Small, block_count};
 ghost use Rattle.sets.specs.Set.{set_of};

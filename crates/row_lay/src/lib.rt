@@ -1,4 +1,7 @@
 // A shape laid out in rows of positions.
+
+#![tactic(auto)]
+
 ghost use Rattle.std.specs.Prelude.{◌≡◌, ◌/◌, ◌≤◌};
 ghost use Rattle.shapes.specs.Shape.{total, block_count};
 ghost use Rattle.shapes.specs.Lent.{Whole, shape_of};

@@ -1,1 +1,3 @@
 // No code: what rows of positions tell of two shapes that are read together.
+
+#![tactic(auto)]

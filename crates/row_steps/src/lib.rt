@@ -1,4 +1,7 @@
 // What steps lead to: a row closed under the ends of runs, forwards and backwards; and what pairs of sets pick.
+
+#![tactic(auto)]
+
 ghost use Rattle.std.specs.Prelude.{◌≡◌, true, false, ◌≤◌, length};
 ghost use Rattle.std.specs.Int.Bits.{bit_or};
 ghost use Rattle.sets.specs.Set.{set_of, Exactly};
@@ -11,7 +14,7 @@ ghost use Rattle.carries.specs.Climb.{Spans};
 use sets::Set;
 
 // A row closed backwards, and the positions at which a run may end and land in it.
-#[derive(Drop)]
+#[derive(Clone, Copy)]
 pub struct Closed {
     pub row: Set,
     pub quit: Set,
@@ -58,7 +61,7 @@ fn all(rows: &[u64], k: usize) -> Set
 }
 
 // Where any run may end, and where it then is.
-#[derive(Drop)]
+#[derive(Clone, Copy)]
 pub struct Runs {
     pub free: Set,
     pub stops: Set,
@@ -102,7 +105,7 @@ pub fn close_forth_word(free: u64, stops: u64, s: u64) -> u64
     s | carries::climb_word(free, s) & stops
 }
 
-#[derive(Drop)]
+#[derive(Clone, Copy)]
 pub struct ClosedWord {
     pub row: u64,
     pub quit: u64,

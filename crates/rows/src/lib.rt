@@ -1,4 +1,7 @@
 // Rows of bits: sets of positions as words, one row after the other.
+
+#![tactic(auto)]
+
 ghost use Rattle.std.specs.Prelude.{◌≡◌, ◌<◌, replicate};
 ghost use Rattle.sets.specs.Set.{set_of};
 ghost use Rattle.rows.specs.Row.{row_count, layout_size, table_size, row_in, PutRow};

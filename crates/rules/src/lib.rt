@@ -1,8 +1,11 @@
 // A rule of a book: its kind and the texts that it names.
+
+#![tactic(auto)]
+
 ghost use Rattle.std.specs.Prelude.{◌≡◌, ◌<◌};
 ghost use Rattle.rules.specs.Rule.{rule_at, rule_count};
 
-#[derive(Drop)]
+#[derive(Clone, Copy)]
 pub struct Rule {
     pub kind: u64,
     pub a: u64,

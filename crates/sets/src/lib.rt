@@ -1,4 +1,7 @@
 // Sets of numbers below 256, in four 64-bit words: of characters, or of positions.
+
+#![tactic(auto)]
+
 ghost use Rattle.std.specs.Prelude.{◌≡◌, ◌+◌, ◌*◌, ◌/◌, ◌%◌, ◌^◌, ◌≤◌, ◌<◌};
 ghost use Rattle.std.specs.Int.Bits.{bit_and, bit_or};
 ghost use Rattle.bases.specs.Base.{Holds, Empty, Meets, Least, Greatest};
@@ -6,7 +9,7 @@ ghost use Rattle.plain.specs.Tells.{Tells};
 ghost use Rattle.sets.specs.Set.{set_of, Exactly};
 
 // Bit k of `a` stands for k, of `b` for 64 + k, of `c` for 128 + k, of `d` for 192 + k.
-#[derive(Drop)]
+#[derive(Clone, Copy)]
 pub struct Set {
     pub a: u64,
     pub b: u64,

@@ -1,4 +1,7 @@
 // What is wrong with a shape's numbers, if anything: the first bad block and which thing, or the shape's length.
+
+#![tactic(auto)]
+
 ghost use Rattle.std.specs.Prelude.{◌≤◌, ◌<◌};
 ghost use Rattle.plain.specs.Tells.{Tells};
 ghost use Rattle.shapes.specs.Shape.{block_count};

@@ -1,4 +1,7 @@
 // A shape's numbers: its blocks read and written, and the sum of their uppers.
+
+#![tactic(auto)]
+
 ghost use Rattle.std.specs.Prelude.{◌≡◌, ◌/◌, ◌≤◌, ◌<◌};
 ghost use Rattle.shapes.specs.Shape.{Small, total, block_count};
 ghost use Rattle.shapes.specs.Lent.{meant, block_at, shape_of, Put};
@@ -12,7 +15,7 @@ pub const SIZE: usize = 6;
 pub const MOST: usize = 32;
 
 // A block as the code carries it: a base, a lower and an upper.
-#[derive(Drop)]
+#[derive(Clone, Copy)]
 pub struct Block {
     pub base: Set,
     pub lower: u64,

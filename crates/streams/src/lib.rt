@@ -3,11 +3,14 @@
 //
 // No contract can say which bytes a read brings or where a write takes them; what was read and what is handed on to be
 // written is in the contracts of those that call these functions.
+
+#![tactic(auto)]
+
 ghost use Rattle.std.specs.Prelude.{◌≤◌, length};
 ghost use Rattle.streams.specs.Within.{ReadInto, ReadMore};
 
 // What the input gave: its bytes, up to what there is room for, or a read that failed.
-#[derive(Drop)]
+#[derive(Clone, Copy)]
 pub enum Input {
     Bytes(usize),
     Failed,

@@ -1,4 +1,7 @@
 // The steps of the quick sweep: one block pushed or stretched in another shape.
+
+#![tactic(auto)]
+
 ghost use Rattle.std.specs.Prelude.{◌≡◌, reverse, ◌≤◌};
 ghost use Rattle.shapes.specs.Lent.{meant, shape_of};
 ghost use Rattle.sweep_steps.specs.Places.{number_of};

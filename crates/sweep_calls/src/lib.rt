@@ -1,4 +1,7 @@
 // The calls on a pair of shapes: the refusals first, then the work.
+
+#![tactic(auto)]
+
 ghost use Rattle.sweep_calls.specs.Sweep.{SweepPromise};
 
 use answers::{Checked, Refusal, Swept};

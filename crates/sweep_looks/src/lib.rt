@@ -1,4 +1,7 @@
 // One look of the quick sweep: what push and stretch do after it.
+
+#![tactic(auto)]
+
 ghost use Rattle.std.specs.Prelude.{◌≡◌};
 ghost use Rattle.shapes.specs.Lent.{meant};
 ghost use Rattle.sweep_steps.specs.Steps.{push_look, stretch_look};

@@ -1,4 +1,7 @@
 // The sweep's two passes over all blocks: the stretches, then the pushes.
+
+#![tactic(auto)]
+
 ghost use Rattle.std.specs.Prelude.{◌≡◌, List, ◌++◌, ℕ, ◌*◌, ◌/◌, ◌≤◌, length, drop};
 ghost use Rattle.shapes.specs.Lent.{shape_of};
 ghost use Rattle.shapes.specs.Shape.{block_count, most_blocks};
@@ -10,7 +13,7 @@ ghost use Rattle.sweep_passes.specs.Read.{held_in, passed};
 use sweep_steps::{BlockNumber, Offset, Place, Stretched};
 
 // What pushing X's blocks comes to, with the looks made.
-#[derive(Drop)]
+#[derive(Clone, Copy)]
 pub enum Passed {
     Through(u64),
     Stuck(u64),

@@ -1,4 +1,7 @@
 // Places of the quick sweep: the block at one, one turned back, the later of two.
+
+#![tactic(auto)]
+
 ghost use Rattle.std.specs.Prelude.{◌≡◌, ◌-◌, ◌≤◌};
 ghost use Rattle.shapes.specs.Lent.{meant, shape_of};
 ghost use Rattle.sweep_steps.specs.Places.{number_of, nth};

@@ -1,16 +1,18 @@
 // The quick sweep's places and what push and stretch come to. A block's number and an offset are kept apart by their
 // types.
 
+#![tactic(auto)]
+
 // A block's number, from 1.
-#[derive(Drop)]
+#[derive(Clone, Copy)]
 pub struct BlockNumber(pub u64);
 
 // An offset within a block, from 0.
-#[derive(Drop)]
+#[derive(Clone, Copy)]
 pub struct Offset(pub u64);
 
 // A place in a shape of m blocks; past the end is block m + 1 at offset 0.
-#[derive(Drop)]
+#[derive(Clone, Copy)]
 pub struct Place {
     pub block: BlockNumber,
     pub offset: Offset,
@@ -18,7 +20,7 @@ pub struct Place {
 
 // What push does after a look at a block: end at this offset in it, restart behind it with the full lower again, or go
 // on behind it with this k.
-#[derive(Drop)]
+#[derive(Clone, Copy)]
 pub enum PushLook {
     Ends(Offset),
     Restarts,
@@ -26,14 +28,14 @@ pub enum PushLook {
 }
 
 // What stretch does after a look: end at this offset in the block, or go on behind it with this k.
-#[derive(Drop)]
+#[derive(Clone, Copy)]
 pub enum StretchLook {
     Ends(Offset),
     GoesOn(u64),
 }
 
 // What push comes to: what of k is left, and the looks made.
-#[derive(Drop)]
+#[derive(Clone, Copy)]
 pub struct Pushed {
     pub start: Place,
     pub end: Place,
@@ -42,7 +44,7 @@ pub struct Pushed {
 }
 
 // What stretch comes to.
-#[derive(Drop)]
+#[derive(Clone, Copy)]
 pub struct Stretched {
     pub end: Place,
     pub looks: u64,

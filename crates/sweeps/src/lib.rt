@@ -1,4 +1,7 @@
 // The quick sweep: the earliest places of a shape's blocks in another shape, or that there cannot be a common text.
+
+#![tactic(auto)]
+
 ghost use Rattle.std.specs.Prelude.{◌≡◌, ◌++◌, ◌*◌, ◌/◌, ◌≤◌, length, take, drop};
 ghost use Rattle.shapes.specs.Lent.{shape_of, RightLength};
 ghost use Rattle.shapes.specs.Shape.{block_count};

@@ -8,6 +8,9 @@
 // bytes     G n w w ..       the same with the greatest text
 //
 // A number and a word of a shape are hex, a text is its bytes as hex pairs and `-` if it is empty.
+
+#![tactic(auto)]
+
 mod show;
 
 use answers::Written;

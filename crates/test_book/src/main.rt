@@ -7,6 +7,9 @@
 // and so are those of the blocks, all of which are shown as they are after the call; z and e count the bytes 0 that the
 // work buffer begins with and the untouched ones at its end. The texts are eight records, each the name of the text's
 // group, stable or none, and the applications made.
+
+#![tactic(auto)]
+
 use answers::{Checked, Ended, Ran, TextRan};
 use test_lines::fields::{copy_numbers, first_list, later_lists, read_words, within};
 use test_lines::{lines, show};

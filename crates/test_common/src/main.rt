@@ -8,6 +8,9 @@
 // hex. The text is shown as hex pairs, `-` if it is empty, and the untouched bytes at the output's end are counted,
 // which are all of them where there is no text; z and e count the bytes 0 that the work buffer begins with and the
 // untouched ones at its end.
+
+#![tactic(auto)]
+
 use answers::Shown;
 use test_lines::fields::{NUMBERS, first_list, later_lists, read_words, within};
 use test_lines::{lines, show};

@@ -5,6 +5,9 @@
 //
 // A report of k bytes, k in hex, and the bytes of a file as hex pairs, `-` if it is empty. The report is shown with `/`
 // for each newline; e counts the untouched bytes at its end, all of them where the file is refused.
+
+#![tactic(auto)]
+
 use answers::Written;
 use test_lines::fields::{find, first_field, later_fields, read_text, read_words, within};
 use test_lines::{lines, show};

@@ -4,6 +4,9 @@
 //     M mark w w ..    nowhere | some least greatest | all least greatest | refused number text place
 //
 // A word of a shape is hex, a mark is its bytes as hex pairs and `-` if it is empty.
+
+#![tactic(auto)]
+
 use answers::{Index, Sought};
 use test_lines::fields::{first_field, later_fields, read_text, read_words};
 use test_lines::{lines, show};

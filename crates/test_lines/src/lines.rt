@@ -11,7 +11,7 @@ const MOST: usize = 1000000;
 
 // A line lies from `start` to `end`, the next one begins at `next`, and so many bytes of the buffer are read. At most
 // `left` lines may still come: none at the end.
-#[derive(Drop)]
+#[derive(Clone, Copy)]
 pub struct Place {
     pub start: usize,
     pub end: usize,

@@ -10,6 +10,9 @@
 // followed by that of Z. The numbers of a line are hex, and so are those of the outputs, all of which are shown as they
 // are after the call, each but the first behind a slash; z and e count the bytes 0 that the work buffer begins with and
 // the untouched ones at its end.
+
+#![tactic(auto)]
+
 use answers::Narrowed;
 use test_lines::fields::{NUMBERS, first_list, later_lists, read_words, within, within_numbers};
 use test_lines::{lines, show};

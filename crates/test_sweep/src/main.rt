@@ -5,6 +5,9 @@
 //
 // The places of X, n numbers, in Y, m numbers, into an output of r numbers. The numbers of a line are hex, and so are
 // those of the output, all of which is shown as it is after the call.
+
+#![tactic(auto)]
+
 use answers::Swept;
 use test_lines::fields::{NUMBERS, first_list, later_lists, read_words, within_numbers};
 use test_lines::{lines, show};

@@ -5,6 +5,9 @@
 //
 // The pairs of the list, m numbers, over the blocks, n numbers, into a row of r records. The numbers of a line are hex.
 // Each record of the row is shown as it is after the call, behind a slash; as found it is a cannot with 0xa5a5 looks.
+
+#![tactic(auto)]
+
 ghost use Rattle.std.specs.Prelude.{◌≤◌};
 
 use answers::{AnswerRecord, SweepVerdict, Tray};

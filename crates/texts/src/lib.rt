@@ -1,4 +1,7 @@
 // The order of two texts.
+
+#![tactic(auto)]
+
 ghost use Rattle.std.specs.Prelude.{◌≡◌};
 ghost use Rattle.texts.specs.Order.{AtMost, Before};
 

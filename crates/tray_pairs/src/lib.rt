@@ -1,4 +1,7 @@
 // A pair of a tray: two ranges of the blocks lent, and the answer record of the quick sweep of the first in the second.
+
+#![tactic(auto)]
+
 ghost use Rattle.std.specs.Prelude.{◌≡◌, ◌<◌};
 ghost use Rattle.plain.specs.Tells.{Tells};
 ghost use Rattle.tray_pairs.specs.Code.{SweptAlone};
@@ -11,14 +14,14 @@ use answers::{AnswerRecord, Checked, Refusal, SweepVerdict, Swept};
 pub const SIZE: usize = 4;
 
 // The blocks from number `first` on, from 0, up to and without number `past`.
-#[derive(Drop)]
+#[derive(Clone, Copy)]
 pub struct Range {
     pub first: u64,
     pub past: u64,
 }
 
 // Two ranges, of which the first is swept in the second.
-#[derive(Drop)]
+#[derive(Clone, Copy)]
 pub struct Pair {
     pub x: Range,
     pub y: Range,

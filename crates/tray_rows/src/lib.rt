@@ -1,4 +1,7 @@
 // A tray by value, for a program that has its row as an array: the row goes in, and comes out as the call leaves it.
+
+#![tactic(auto)]
+
 ghost use Rattle.std.specs.Prelude.{◌≡◌, ◌≤◌, take, drop};
 ghost use Rattle.dashed.specs.Promises.{SweepTray};
 
@@ -8,7 +11,7 @@ use answers::{AnswerRecord, Tray};
 pub const ROOM: usize = 66;
 
 // How the call ended, and the row afterwards.
-#[derive(Drop)]
+#[derive(Clone, Copy)]
 pub struct Batch {
     pub tray: Tray,
     pub row: [AnswerRecord; 66],

@@ -1,4 +1,7 @@
 // A tray of pairs at once: each pair is judged by the quick sweep, its answer put into the record of its number.
+
+#![tactic(auto)]
+
 ghost use Rattle.trays.specs.Code.{TrayEnds, Counted};
 ghost use Rattle.trays.specs.Tray.{TrayPromise};
 

@@ -1,4 +1,7 @@
 // A rule of two texts: they are narrowed, and what comes of them is laid back over the numbers of all.
+
+#![tactic(auto)]
+
 ghost use Rattle.std.specs.Prelude.{◌≡◌, ◌≤◌, ◌*◌, length};
 ghost use Rattle.texts.specs.Kind.{join_kind, relation_of};
 ghost use Rattle.pairs.specs.Narrow.{NarrowAnswer};

@@ -1,5 +1,8 @@
 // At which column does the unit start? Asks it of the torque line, `T`, a number with two decimals and `Nm`, as a
 // program of one's own would.
+
+#![tactic(auto)]
+
 use answers::{Index, Sought};
 
 fn main() {
