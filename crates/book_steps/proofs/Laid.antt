@@ -68,12 +68,16 @@ module _ (counts : List ℕ) where
   pub laid_size : (ks : List ℕ) (H : List (List Block)) (xs : List ℕ) → All (Names counts) ks → Sized counts ks H → length xs ≡ sum_of counts * block_size
       → length (laid_all ks H xs) ≡ sum_of counts * block_size
   unfolding laid_over
+  laid_size [] (B ∷ H) xs a x6 e = elim x6 [ ]
+  laid_size (k ∷ ks) [] xs a x5 e = elim x5 [ ]
   laid_size [] [] xs a no_text e = e
   laid_size (k ∷ ks) (B ∷ H) xs (more n a) (one_text s z) e = laid_size ks H (laid_one k B xs) a z (one_size B xs n e s)
 
   pub laid_shape : (ks : List ℕ) (H : List (List Block)) (xs : List ℕ) → All (Names counts) ks → Sized counts ks H → length xs ≡ sum_of counts * block_size
       → shape_of (laid_all ks H xs) ≡ laid_parts counts ks H (shape_of xs)
   unfolding laid_over laid_parts
+  laid_shape [] (B ∷ H) xs a x6 e = elim x6 [ ]
+  laid_shape (k ∷ ks) [] xs a x5 e = elim x5 [ ]
   laid_shape [] [] xs a no_text e = refl
   laid_shape (k ∷ ks) (B ∷ H) xs (more n a) (one_text s z) e = laid_shape ks H (laid_one k B xs) a z (one_size B xs n e s) ∙ ap (laid_parts counts ks H) (one_shape B xs n e s)
 
@@ -86,6 +90,8 @@ module _ (counts : List ℕ) where
   laid_other : (j : ℕ) (ks : List ℕ) (H : List (List Block)) (xs : List ℕ) → Names counts j → Off ks j → All (Names counts) ks → Sized counts ks H → length xs ≡ sum_of counts * block_size
       → numbers_in counts (laid_all ks H xs) j ≡ numbers_in counts xs j
   unfolding laid_over
+  laid_other j [] (B ∷ H) xs m o a x10 e = elim x10 [ ]
+  laid_other j (k ∷ ks) [] xs m o a x7 e = elim x7 [ ]
   laid_other j [] [] xs m o a no_text e = refl
   laid_other j (k ∷ ks) (B ∷ H) xs m (more d o) (more n a) (one_text s z) e =
       laid_other j ks H (laid_one k B xs) m o a z (one_size B xs n e s) ∙ one_other B xs n e s j m (λ q. d (sym q))

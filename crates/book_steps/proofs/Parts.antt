@@ -103,6 +103,8 @@ module _ (counts : List ℕ) {A : Type 0} where
   pub laid_over_lem : (d : A) (ks : List ℕ) (xs : List (List A)) (l : List A) → All (Names counts) ks → length l ≡ sum_of counts → Sized counts ks xs
       → over d (places_of counts ks) (join_all xs) l ≡ laid_parts counts ks xs l
   unfolding places_of laid_parts join_all
+  laid_over_lem d [] (x ∷ xs) l a e x7 = elim x7 [ ]
+  laid_over_lem d (k ∷ ks) [] l a e x5 = elim x5 [ ]
   laid_over_lem d [] [] l a e no_text = ext_get_or d (over d [] [] l) l (over_length d [] [] l) (λ i h. over_off d [] [] l i All.none)
   laid_over_lem d (k ∷ ks) (x ∷ xs) l (more n a) e (one_text s z) =
       let w = text_within counts k n.from_one in

@@ -70,4 +70,5 @@ fours_pass (here d) s c whole few = d.lacking (record {
 fours_pass (later _ (here (k, f))) s c whole few =
     blocks_tells NotSix (λ i. ((λ e. omega (arith, e)), (λ e. omega (arith, e)), (λ e. omega (arith, e)))) (λ e. omega (arith, e)) f.refused s
 fours_pass (later _ (later _ (here (i, f)))) s c whole few = rule_tells NotSix (λ e. omega (arith, e)) (λ e. omega (arith, e)) f.refused s
+fours_pass {counts = counts} {blocks = blocks} {rules = rules} {w = w} {t = t} (later _ (later _ (later _ (later _ x12)))) s c whole few = elim x12 [ ]
 fours_pass (later _ (later _ (later _ (here d)))) s c whole few = let z : ◌≡◌ {A = ℕ} 4 6 = sym (ap (λ (u : Told). u.number) d.tells) ∙ s in omega arith

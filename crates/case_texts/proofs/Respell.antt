@@ -145,6 +145,7 @@ pub record Recut (W : List Block) (t : List ℕ) : Type 0 where
 
 pub recut : {S W : List Block} {f : List (List ℕ)} → Wide S W → Filling S f → (t : List ℕ) → Alike (text_of f) t → Recut W t
 unfolding text_of
+recut Wide.end done (_ ∷ _) a = elim a [ ]
 recut Wide.end done [] none = record { runs = []; filling = done; text = refl }
 recut (Wide.next v x) (fill {r = r} {f = f} q y) t a =
     let k = cut_alike r (text_of f) t a in

@@ -26,6 +26,7 @@ record Swapped (b d : ℕ) (r : List ℕ) : Type 0 where
   there : Occurs d run
 
 swap : {b c : ℕ} (d : ℕ) (r : List ℕ) → Holds b d → lowered d ≡ lowered c → All (Holds b) r → Occurs c r → Swapped b d r
+swap {b = b} {c = c} d [] h e _ x5 = elim x5 [ ]
 swap d (x ∷ r) h e (All.more p a) (Memᴰ.head z) = record { run = d ∷ r; held = All.more h a; alike = more (e ∙ ap lowered z) (alike_refl r); there = Memᴰ.head refl }
 swap d (x ∷ r) h e (All.more p a) (Memᴰ.tail m) =
     let s = swap d r h e a m in

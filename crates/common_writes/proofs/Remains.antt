@@ -28,7 +28,7 @@ use Rattle.common_writes.proofs.Part.{rest, laid_text}
 -- ---- one shape
 
 module _ {X : ℕ → Block} where
-  closed_walk : {P p q : ℕ} → WithEnds X P → Holds P p → Walk X q p [] → Holds P q
+  closed_walk : {P q p : ℕ} → WithEnds X P → Holds P p → Walk X q p [] → Holds P q
   closed_walk {P} c h (here e) = subst (Holds P) e h
   closed_walk {p = p} c h (skip l w) = closed_walk c (c.closed p h l) w
 

@@ -48,7 +48,7 @@ pub fn codes_below(s: Successor) -> u64
 }
 
 // Whether c goes first where so many codes lie below the successor.
-fn goes_first_lem(d: Direction, c: u8, below: u64) -> bool
+fn goes_first(d: Direction, c: u8, below: u64) -> bool
     ensures { (s : Successor) → below ≡ codes_below s → result ≡ goes_first d c s }
 {
     match d {
@@ -116,7 +116,7 @@ pub fn choose(d: Direction, shape: &[u64], i: usize, below: u64) -> Choice
         };
     }
     let c = char_of(d, b.base);
-    let first = goes_first_lem(d, c, below);
+    let first = goes_first(d, c, below);
     let count = count_of(first, b) as u8;
     let successor = onward(d, first, c);
     Choice { successor, count }

@@ -20,7 +20,7 @@ use Rattle.file_lines.specs.declared.Heading.TheVariants.{Texts, Blocks, Rules}
 use Rattle.file_lines.specs.declared.Width.{Width}
 use Rattle.file_lines.specs.declared.Width.TheVariants.{Low}
 use Rattle.file_lines.specs.Grammar.{joined, Item, RightItem, line_of, Part, part_lines, lines_of, writing, Section, InGrammar}
-use Rattle.file_lines.specs.Grammar.InGrammar.{none as no_part, more as one-part}
+use Rattle.file_lines.specs.Grammar.InGrammar.{none as no_more_part, more as one-part}
 use Rattle.file_lines.specs.Book.{Sheet, Book, part, sheet_parts, book_parts}
 use Rattle.file_lines.specs.Lines.{Without}
 use Rattle.file_lines.proofs.Split.{head_one, tail_one, parted}
@@ -142,7 +142,7 @@ part_one h xs r v k ys s w l = go (heading_one h k (length xs) (length ys) (head
 
 lines_one : {G : List Section} {X Y : List Part} → InGrammar G X → InGrammar G Y → lines_of X ≡ lines_of Y → X ≡ Y
 unfolding lines_of
-lines_one no_part no_part e = refl
+lines_one no_more_part no_more_part e = refl
 lines_one (one-part {p = p} {X = X} i g) (one-part {p = q} {X = Y} j k) e =
     let t = part_one p.heading p.items (lines_of X) i.right q.heading q.items (lines_of Y) j.right e in
     ap₂ ◌∷◌ t.0 (lines_one g k t.1)

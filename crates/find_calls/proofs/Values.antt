@@ -43,8 +43,8 @@ module _ {xs mark : List ℕ} (a : Asked xs mark) where
 
   pub least_there : (r : Sought) → FindPromise xs mark r → 0 < least_index r → SomeFirst mark (shape_of xs) (least_index r)
   least_there Nowhere p h = absurd (omega arith)
-  least_there (InSome i j) p h = p.1.1.at_least_lem
-  least_there (InAll i j) p h = p.1.1.at_least_lem
+  least_there (InSome i j) p h = p.1.1.at_least
+  least_there (InAll i j) p h = p.1.1.at_least
   least_there (Refused q) p h = absurd (find_refused_not xs mark p a)
 
   pub greatest_there : (r : Sought) → FindPromise xs mark r → 0 < least_index r → SomeFirst mark (shape_of xs) (greatest_index r)
@@ -61,14 +61,14 @@ module _ {xs mark : List ℕ} (a : Asked xs mark) where
 
   pub none_has : (r : Sought) → FindPromise xs mark r → (least_index r ≡ 0) ↔ ((t : List ℕ) → Fits (shape_of xs) t → Lacks mark t)
   none_has Nowhere p = ((λ e. p.1), λ n. refl)
-  none_has (InSome i j) p = ((λ e. absurd (index_above p.1.1.at_least_lem e)), λ n. absurd (has_not_lacks p.1.1.at_least_lem n))
-  none_has (InAll i j) p = ((λ e. absurd (index_above p.1.1.at_least_lem e)), λ n. absurd (has_not_lacks p.1.1.at_least_lem n))
+  none_has (InSome i j) p = ((λ e. absurd (index_above p.1.1.at_least e)), λ n. absurd (has_not_lacks p.1.1.at_least n))
+  none_has (InAll i j) p = ((λ e. absurd (index_above p.1.1.at_least e)), λ n. absurd (has_not_lacks p.1.1.at_least n))
   none_has (Refused q) p = absurd (find_refused_not xs mark p a)
 
   pub none_both : (r : Sought) → FindPromise xs mark r → least_index r ≡ 0 → greatest_index r ≡ 0
   none_both Nowhere p e = refl
-  none_both (InSome i j) p e = absurd (index_above p.1.1.at_least_lem e)
-  none_both (InAll i j) p e = absurd (index_above p.1.1.at_least_lem e)
+  none_both (InSome i j) p e = absurd (index_above p.1.1.at_least e)
+  none_both (InAll i j) p e = absurd (index_above p.1.1.at_least e)
   none_both (Refused q) p e = refl
 
   -- no fitting text has a character that no base holds
@@ -83,15 +83,15 @@ module _ {xs mark : List ℕ} (a : Asked xs mark) where
 
       go : (s : Sought) → FindPromise xs mark s → s ≡ Nowhere
       go Nowhere q = refl
-      go (InSome k m) q = absurd (not_there q.1.1.at_least_lem)
-      go (InAll k m) q = absurd (not_there q.1.1.at_least_lem)
+      go (InSome k m) q = absurd (not_there q.1.1.at_least)
+      go (InAll k m) q = absurd (not_there q.1.1.at_least)
       go (Refused k) q = absurd (find_refused_not xs mark q a)
 
 pub empty_answer : {xs : List ℕ} (r : Sought) → Accepted xs → FindPromise xs [] r → (lacking r ≡ false) × (least_index r ≡ 1) × (greatest_index r ≡ 1)
 empty_answer {xs} Nowhere a p = let t = some_text a.sound in absurd ((p.1 t.0 t.1).nowhere 1 (empty_first t.0).there)
 empty_answer {xs} (InSome i j) a p = let x = p.1.0 in absurd (x.lacks.nowhere 1 (empty_first x.text).there)
 empty_answer {xs} (InAll i j) a p =
-    let x = p.1.1.at_least_lem in
+    let x = p.1.1.at_least in
     let y = p.1.1.at_greatest in
     let l = (occurs_within x.first.there).1 in
     let g = (occurs_within y.first.there).1 in
@@ -106,4 +106,5 @@ thirteen_only xs mark q p e = go (told q) p e
   where
     go : (t : Told) → FindRefused xs mark t → t.number ≡ 13 → Accepted xs × (64 < length mark)
     go t (here d) n = absurd (shape_other (omega arith, inr (omega arith)) d n)
+    go t (later a (later _ x4)) n = elim x4 [ ]
     go t (later a (here d)) n = (a, let l = d.lacking in omega (arith, l))

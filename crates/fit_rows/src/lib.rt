@@ -59,7 +59,7 @@ fn smaller(m: u64, n: u64) -> u64
 }
 
 // The row of a block and those after it, from the row of those after it. A text of n characters.
-pub fn row_before_lem(b: Block, held: Set, after: Set, n: usize) -> Set
+pub fn row_before(b: Block, held: Set, after: Set, n: usize) -> Set
     requires { Sound (meant b) }
     ensures { (s : List Meant) (t : List ℕ) → length t ≡ n → HeldAt (meant b).base t (set_of held) → Row s t (set_of after) → Row (meant b ∷ s) t (set_of result) }
 {

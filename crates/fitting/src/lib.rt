@@ -29,7 +29,7 @@ fn fits_by(shape: &[u64], text: &[u8], table: &[u64], seen: Set) -> bool
         i -= 1;
         let b = shapes::block_at(shape, i);
         let held = fit_tables::places(sets::both(b.base, seen), table);
-        row = fit_rows::row_before_lem(b, held, row, text.len());
+        row = fit_rows::row_before(b, held, row, text.len());
     }
     sets::has(row, 0)
 }

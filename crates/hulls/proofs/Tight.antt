@@ -15,6 +15,7 @@ use Rattle.hulls.specs.Book.{Inside}
 use Rattle.hulls.proofs.Order.{inside_antisym}
 
 pub all_at : {P : ℕ → Type 0} {l : List ℕ} {c : ℕ} → All P l → Occurs c l → P c
+all_at {P = P} {c = c} Rattle.plain.specs.All.none x3 = elim x3 [ ]
 all_at {P} (more p l) (Memᴰ.head e) = rw e p
 all_at (more p l) (Memᴰ.tail m) = all_at l m
 

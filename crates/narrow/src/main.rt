@@ -15,9 +15,9 @@ use answers::Written;
 use streams::Input;
 
 // One byte more than a file may have, so that a larger one shows.
-fn main() {
+fn main(rt: HostRuntime) {
     let mut file = [0u8; file_lines::FILE_LIMIT + 1];
-    match streams::read_input(&mut file) {
+    match streams::read_input(rt.stdin(), &mut file) {
         Input::Bytes(n) => answer(&file[..n]),
         Input::Failed => streams::complain(b"narrow: the input cannot be read\n"),
     }

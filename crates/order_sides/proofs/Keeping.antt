@@ -29,7 +29,7 @@ one_more {c = c} h (early a b d s e w g) = early (c ∷ a) b d s (ap (λ (l : Li
 pub cut : {G : Guide} {q : ℕ} (t u : List ℕ) → KeepsTo G q (t ++ u) → CutAt G q t u
 cut {q = q} [] u k = whole q (here refl) k
 cut {q = q} (c ∷ t) u (KeepsTo.apart h) = early [] t c q refl (here refl) h
-cut (c ∷ t) u (KeepsTo.same h k) = one_more h (cut t u k)
+cut {G = G} {q = q} (c ∷ t) u (Rattle.order_sides.specs.Guide.same h k) = one_more h (cut {q = q + 1} t u k)
 
 pub not_last : {G : Guide} {W : ℕ} → AtEnd G W → (q c : ℕ) → q ≤ W → Holds (G.same q) c → q < W
 not_last {G} {W} g q c h k = ⊎_elim (λ l. l) (λ l. absurd (g.no_more c (subst (λ (z : ℕ). Holds (G.same z) c) (let e : q ≡ W = omega arith in e) k))) (lt_or_le q W)

@@ -35,4 +35,5 @@ module _ {xs ys : List ℕ} {w a b : ℕ} where
 -- the numbers of its refusals are those of a shape
 pub pair_other : {m : ℕ} {xs ys : List ℕ} {t : Told} → Other m → PairRefused xs ys t → t.number ≡ m → ⊥
 pair_other o (here d) n = shape_other o d n
+pair_other {m = m} {xs = xs} {ys = ys} {t = t} o (later a (later _ x4)) n = elim x4 [ ]
 pair_other o (later a (here d)) n = shape_other o d n

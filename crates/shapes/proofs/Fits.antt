@@ -80,7 +80,7 @@ pub fits_length : {s : List Block} {t : List ℕ} → Fits s t → length t ≤ 
 fits_length {s} h = subst (λ (t : List ℕ). length t ≤ total s) h.joined (filling_length h.filling)
 
 -- a text has no character that no base holds
-pub not_in_text : {s : List Block} {f : List (List ℕ)} (c : ℕ) → All (λ (b : Block). Holds b.base c → ⊥) s → Filling s f → All (λ (d : ℕ). d ≡ c → ⊥) (text_of f)
+pub not_in_text : (c : ℕ) {s : List Block} {f : List (List ℕ)} → All (λ (b : Block). Holds b.base c → ⊥) s → Filling s f → All (λ (d : ℕ). d ≡ c → ⊥) (text_of f)
 unfolding text_of
 not_in_text c none done = none
 not_in_text c (more {a = b} n ns) (fill run rest) = all_append (all_map (λ d h e. n (subst (Holds b.base) e h)) run.held) (not_in_text c ns rest)

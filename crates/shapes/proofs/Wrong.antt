@@ -86,6 +86,7 @@ unsound_wrong b u = why (block_due 1 1 b u).1
     why : {t : Told} → BlockRefused 1 1 b t → Crossed b ⊎ (TooLarge b ⊎ Disagree b)
     why (here h) = inl h.so
     why (later c (here h)) = inr (inl h.so)
+    why {t = t} (later c (later l (later _ x4))) = elim x4 [ ]
     why (later c (later l (here h))) = inr (inr h.so)
 
 pub wrong_unsound : (b : Block) → Crossed b ⊎ (TooLarge b ⊎ Disagree b) → Sound b → ⊥

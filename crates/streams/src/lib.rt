@@ -9,6 +9,8 @@
 ghost use Rattle.std.specs.Prelude.{◌≤◌, length};
 ghost use Rattle.streams.specs.Within.{ReadInto, ReadMore};
 
+use std::io::{Read, Stdin};
+
 // What the input gave: its bytes, up to what there is room for, or a read that failed.
 #[derive(Clone, Copy)]
 pub enum Input {
@@ -17,12 +19,12 @@ pub enum Input {
 }
 
 // Reads on until a read gives no more bytes or the buffer is full.
-pub fn read_input(buffer: &mut [u8]) -> Input
+pub fn read_input(stdin: Stdin, buffer: &mut [u8]) -> Input
     ensures { ReadInto buffer.new result }
 {
     let mut done = 0;
     while done < buffer.len() {
-        let Input::Bytes(n) = read_more(buffer, done) else {
+        let Input::Bytes(n) = read_more(stdin, buffer, done) else {
             return Input::Failed;
         };
         if n == done {
@@ -34,25 +36,24 @@ pub fn read_input(buffer: &mut [u8]) -> Input
 }
 
 // One read more, behind the bytes that were read so far, which stay.
-fn read_more(buffer: &mut [u8], done: usize) -> Input
+fn read_more(stdin: Stdin, buffer: &mut [u8], done: usize) -> Input
     requires { done ≤ length buffer.old }
     ensures { ReadMore buffer.old done buffer.new result }
 {
-    let Input::Bytes(more) = read_some(&mut buffer[done..]) else {
+    let Input::Bytes(more) = read_some(stdin, &mut buffer[done..]) else {
         return Input::Failed;
     };
     Input::Bytes(done + more)
 }
 
 // One read. It gives no bytes at the end of the input.
-fn read_some(buffer: &mut [u8]) -> Input
+fn read_some(mut stdin: Stdin, buffer: &mut [u8]) -> Input
     ensures { ReadInto buffer.new result }
 {
-    let got = libc::read(0, buffer);
-    if got < 0 {
-        return Input::Failed;
+    match stdin.read(buffer) {
+        Ok(n) => Input::Bytes(n),
+        Err(_) => Input::Failed,
     }
-    Input::Bytes(io::count(got, buffer))
 }
 
 // All of a report, to the standard output; the complaint if that fails.

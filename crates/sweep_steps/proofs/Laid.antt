@@ -79,7 +79,7 @@ window {p = p} {ns = ns} i zero l h =
     record { behind = p; laid = l; same = λ q _. ap (λ (z : ℕ). stand z p ns q) (let e : i ≡ i + 0 = omega arith in e); whole = refl }
 window i (suc j) done h = absurd (omega arith)
 window i (suc j) (next {p = p} {n = n} {ns = ns} lo hi held r) h =
-    let w = window (i + 1) j r (omega arith) in
+    let w = window {p = p + n} (i + 1) j r (omega arith) in
     record {
       behind = w.behind;
       laid = w.laid;

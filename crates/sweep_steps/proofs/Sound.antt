@@ -85,6 +85,7 @@ module _ (c : ℕ → ℕ) (y : List Block) (ns : List ℕ) (laid : Laid c 0 y n
       step p z g ih = rw (eq-eqb p.left 0 z) (join (pushes y hs p.end) ih)
         where
           join : (t : Found) → Right ns (a + n) fs t → Right ns a (n ∷ fs) (found p.start p.looks t)
+          join (Rattle.sweep_steps.specs.Steps.cannot _) x6 = elim x6 [ ]
           join (places qs l) (right s) = right (more g s)
 
   pub sweep_right : {x : List Block} {fs : List ℕ} → Laid c 0 x fs → sum fs ≡ sum ns → Right ns 0 fs (sweep_of x y)
@@ -98,4 +99,5 @@ module _ (c : ℕ → ℕ) (y : List Block) (ns : List ℕ) (laid : Laid c 0 y n
       first (more r i f t) = f
 
       more_looks : (t : Found) → Right ns 0 fs t → Right ns 0 fs (looked (stretches x y).looks t)
+      more_looks (Rattle.sweep_steps.specs.Steps.cannot _) x3 = elim x3 [ ]
       more_looks (places qs k) (right s) = right s

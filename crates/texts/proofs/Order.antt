@@ -1,5 +1,5 @@
 -- The order of texts is total, and "before" is its strict part. Assumes nothing.
-use mathlib.Core.Path.{◌≡◌, refl, ap, subst}
+use mathlib.Core.Path.{◌≡◌, refl, sym, ap, subst}
 use mathlib.Core.List.{List, [], ◌∷◌, ◌++◌}
 use mathlib.Core.Logic.{◌⊎◌, inl, inr, ⊎_elim}
 use Prim.Native.Nat.{ℕ, ◌≤◌, ◌<◌}
@@ -48,11 +48,14 @@ at_most_trans (at_same p) (at_less g) = at_less g
 at_most_trans (at_same p) (at_same q) = at_same (at_most_trans p q)
 
 pub at_most_antisym : {t u : List ℕ} → AtMost t u → AtMost u t → t ≡ u
-at_most_antisym at-ends at-ends = refl
-at_most_antisym (at_less h) (at_less g) = absurd (omega arith)
-at_most_antisym (at_less h) (at_same g) = absurd (omega arith)
-at_most_antisym (at_same p) (at_less g) = absurd (omega arith)
-at_most_antisym (at_same {c = c} p) (at_same q) = ap (λ (l : List ℕ). c ∷ l) (at_most_antisym p q)
+at_most_antisym {t = []} {u = []} p q = refl
+at_most_antisym {t = []} {u = d ∷ u} p q = absurd (at_most_nil q)
+at_most_antisym {t = c ∷ t} {u = []} p q = absurd (at_most_nil p)
+at_most_antisym {t = c ∷ t} {u = d ∷ u} p q =
+    let h = at_most_head p in
+    let g = at_most_head q in
+    let e : c ≡ d = omega arith in
+    subst (λ (x : ℕ). c ∷ t ≡ x ∷ u) e (ap (λ (l : List ℕ). c ∷ l) (at_most_antisym (at_most_tail p e) (at_most_tail q (sym e))))
 
 pub before_at_most : {t u : List ℕ} → Before t u → AtMost t u
 before_at_most ends = at-ends
@@ -60,11 +63,13 @@ before_at_most (less h) = at_less h
 before_at_most (same p) = at_same (before_at_most p)
 
 pub not_before : {t u : List ℕ} → AtMost t u → Before u t → ⊥
-not_before at-ends q = before_nil q
-not_before (at_less h) (less g) = omega arith
-not_before (at_less h) (same g) = omega arith
-not_before (at_same p) (less g) = omega arith
-not_before (at_same p) (same q) = not_before p q
+not_before {t = []} p q = before_nil q
+not_before {t = c ∷ t} {u = []} p q = at_most_nil p
+not_before {t = c ∷ t} {u = d ∷ u} p q =
+    let h = at_most_head p in
+    let g = before_head q in
+    let e : c ≡ d = omega arith in
+    not_before (at_most_tail p e) (before_tail q (sym e))
 
 pub at_most_or_before : (t u : List ℕ) → AtMost t u ⊎ Before u t
 at_most_or_before [] u = inl at-ends
@@ -103,5 +108,5 @@ before_itself [] u c = ends
 before_itself (d ∷ t) u c = same (before_itself t u c)
 
 pub not_back : (t u : List ℕ) (c : ℕ) → AtMost (t ++ (c ∷ u)) t → ⊥
-not_back (d ∷ t) u c (at_less h) = omega arith
-not_back (d ∷ t) u c (at_same p) = not_back t u c p
+not_back [] u c x' = elim x' [ ]
+not_back (d ∷ t) u c p = not_back t u c (at_most_tail p refl)

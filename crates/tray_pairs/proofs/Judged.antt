@@ -46,6 +46,7 @@ alone xs ys out out' (Refused q) room p = of_shapes (told q) p.0
   where
     of_shapes : (t : Told) → SweepRefused xs ys (length out) t → PairRefused xs ys t
     of_shapes t (here d) = d
+    of_shapes t (later a (later _ x5)) = elim x5 [ ]
     of_shapes t (later a (here l)) = absurd (l.lacking room)
 
 -- what is refused is not what the steps find, and is refused one way

@@ -20,6 +20,7 @@ last_of c [] = ([], c, refl)
 last_of c (d ∷ r) = let l = last_of d r in (c ∷ l.0, l.1, ap (λ (l : List ℕ). c ∷ l) l.2)
 
 pub occurs_split : {c : ℕ} {r : List ℕ} → Occurs c r → (q : List ℕ) × (s : List ℕ) × (r ≡ q ++ (c ∷ s))
+occurs_split {c = c} {r = []} x'' = elim x'' [ ]
 occurs_split {c} {r = d ∷ r} (Memᴰ.head e) = ([], r, ap (λ (x : ℕ). x ∷ r) (sym e))
 occurs_split {c} {r = d ∷ r} (Memᴰ.tail m) = let l = occurs_split m in (d ∷ l.0, l.1, ap (λ (l : List ℕ). d ∷ l) l.2)
 

@@ -123,7 +123,7 @@ pub slots_take : {X : ℕ → Block} {p : ℕ} {s : List Block} (i : ℕ) → Sl
 slots_take zero none = none
 slots_take zero (next h k) = none
 slots_take (suc i) none = none
-slots_take (suc i) (next h k) = next h (slots_take i k)
+slots_take {X = X} {p = p} (suc i) (next {b = b} {s = s} h k) = next h (slots_take {p = p + b.upper} i k)
 
 pub has_at : {X : ℕ → Block} {p : ℕ} {s : List Block} → Slots X p s → (i : ℕ) → i < length s → Has X (p + total (take i s)) (get_or s i no_block)
 unfolding total

@@ -21,12 +21,12 @@ module _ {X : ℕ → Block} where
   pub walk_text : {q p : ℕ} {t u : List ℕ} → t ≡ u → Walk X q p t → Walk X q p u
   walk_text {q} {p} e w = subst (Walk X q p) e w
 
-  pub walk_append : {p q r : ℕ} {t u : List ℕ} → Walk X q p t → Walk X r q u → Walk X r p (t ++ u)
+  pub walk_append : {q p r : ℕ} {t u : List ℕ} → Walk X q p t → Walk X r q u → Walk X r p (t ++ u)
   walk_append (here e) v = walk_from e v
   walk_append (skip l w) v = skip l (walk_append w v)
   walk_append (step h w) v = step h (walk_append w v)
 
-  pub forwards : {p q : ℕ} {t : List ℕ} → Walk X q p t → p ≤ q
+  pub forwards : {q p : ℕ} {t : List ℕ} → Walk X q p t → p ≤ q
   forwards (here e) = omega arith
   forwards (skip l w) = let h = forwards w in omega arith
   forwards (step h w) = let g = forwards w in omega arith
@@ -39,9 +39,9 @@ module _ {X : ℕ → Block} where
   -- the place where a reading of t and more has read t
   pub split_text : {q p : ℕ} (t u : List ℕ) → Walk X q p (t ++ u) → (m : ℕ) × Walk X m p t × Walk X q m u
   split_text {p = p} [] u w = (p, here refl, w)
-  split_text (c ∷ t) u w =
+  split_text {q = q} {p = p} (c ∷ t) u w =
       let a = take_one w in
-      let r = split_text t u a.3 in
+      let r = split_text {p = (take_one w).0 + 1} t u a.3 in
       (r.0, walk_append a.1 (step a.2 r.1), r.2)
 
   -- the place where it takes the character after t

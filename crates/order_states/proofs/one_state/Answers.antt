@@ -1,0 +1,17 @@
+-- `order_states::one_state`: the row closed backwards is the rests; what is reached, ends early, stays or parts is in
+-- the row and there. Assumes nothing.
+use Rattle.sets.specs.Set.{set_of}
+use Rattle.order_rows.proofs.Passes.{pass_state}
+use Rattle.order_states.proofs.one_state.Goals as goal
+
+pub returns : goal.returns
+returns c =
+    let b = c in
+    let t = b in
+    let s = t.args in
+    let closed = b.back_by-c.ensures in
+    record {
+      holds = λ X G U q z g v o. pass_state (set_of s.clear) (set_of s.s.same) (set_of s.s.apart) (set_of s.s.over) (set_of s.row) q z g v o
+          b.down.ensures b.both-stay.ensures b.either.ensures closed.exactly closed.exactly_2
+          c.both.ensures c.both-2.ensures c.both-3.ensures;
+    }

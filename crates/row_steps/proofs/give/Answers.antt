@@ -1,0 +1,13 @@
+-- `row_steps::give`: a row that its first word has is that word. Assumes nothing.
+use mathlib.Core.Path.{sym}
+use Rattle.row_steps.proofs.Steps.{given_as}
+use Rattle.row_steps.proofs.give.Goals as goal
+
+pub returns-then-is_word : goal.returns-then-is_word
+returns-then-is_word c =
+    let g = c in
+    let i = g in
+    record {
+      given = given_as (sym (i.is_word.ensures.0 i.if-is_word.true)) g.give_word.ensures.given;
+      given_len_unchanged = g.give_word.ensures.given_len_unchanged;
+    }
