@@ -95,6 +95,7 @@ three = record {
         → BlockRefused n (f.first.before + 1) (get_or s f.first.before no_block) (tell 2 n p) → WrongAt s p Crossed
     go_2 {s = s} f (here d) = wrong_at s Crossed f (place_of d.tells) d.so
     go_2 f (later c (here d)) = absurd (let z : ◌≡◌ {A = ℕ} 2 10 = number_of d.tells in omega arith)
+    go_2 {n = n} {j = j} {p = p} {s = s} f (later c (later l (later _ x4))) = elim x4 [ ]
     go_2 f (later c (later l (here d))) = absurd (let z : ◌≡◌ {A = ℕ} 2 11 = number_of d.tells in omega arith)
 
     go_10 : {n j p : ℕ} {s : List Block} (f : FirstBlock n s j (tell 10 n p))
@@ -102,6 +103,7 @@ three = record {
         → WrongAt s p (λ (b : Block). (Crossed b → ⊥) × TooLarge b)
     go_10 f (here d) = absurd (let z : ◌≡◌ {A = ℕ} 10 2 = number_of d.tells in omega arith)
     go_10 {s = s} f (later c (here d)) = wrong_at s (λ (b : Block). (Crossed b → ⊥) × TooLarge b) f (place_of d.tells) (c, d.so)
+    go_10 {n = n} {j = j} {p = p} {s = s} f (later c (later l (later _ x4))) = elim x4 [ ]
     go_10 f (later c (later l (here d))) = absurd (let z : ◌≡◌ {A = ℕ} 10 11 = number_of d.tells in omega arith)
 
     go_11 : {n j p : ℕ} {s : List Block} (f : FirstBlock n s j (tell 11 n p))
@@ -109,6 +111,7 @@ three = record {
         → WrongAt s p (λ (b : Block). (Crossed b → ⊥) × (TooLarge b → ⊥) × Disagree b)
     go_11 f (here d) = absurd (let z : ◌≡◌ {A = ℕ} 11 2 = number_of d.tells in omega arith)
     go_11 f (later c (here d)) = absurd (let z : ◌≡◌ {A = ℕ} 11 10 = number_of d.tells in omega arith)
+    go_11 {n = n} {j = j} {p = p} {s = s} f (later c (later l (later _ x4))) = elim x4 [ ]
     go_11 {s = s} f (later c (later l (here d))) = wrong_at s (λ (b : Block). (Crossed b → ⊥) × (TooLarge b → ⊥) × Disagree b) f (place_of d.tells) (c, l, d.so)
 
 each : {Says : ℕ → (Block → Type 0) → Type 0} → ((k : ℕ) (Wrong : Block → Type 0) → StandsFor k Wrong → Says k Wrong) → OfThree Says
@@ -139,6 +142,7 @@ module _ (c : Call) (g : c.Given) (m : c.Memory) where
 
 blocks_back : {n : ℕ} {s : List Block} {t : Told} → BlocksRefused n s t → OfBlock t.number → (k : ℕ) × FirstBlock n s k t
 blocks_back (here f) o = f
+blocks_back {n = n} {s = s} {t = t} (later g (later _ x4)) o = elim x4 [ ]
 blocks_back (later g (here d)) o =
     absurd (other d.tells (λ (z : ◌≡◌ {A = ℕ} 3 2). omega arith) (λ (z : ◌≡◌ {A = ℕ} 3 10). omega arith) (λ (z : ◌≡◌ {A = ℕ} 3 11). omega arith) o)
 
@@ -159,12 +163,14 @@ no_5 e = other e (λ (z : ◌≡◌ {A = ℕ} 5 2). omega arith) (λ (z : ◌≡
 find_back : (xs mark : List ℕ) (t : Told) → FindRefused xs mark t → t.text ≡ 1 → OfBlock t.number
     → RightLength xs × ((k : ℕ) × FirstBlock 1 (shape_of xs) k t)
 find_back xs mark t (here p) e o = shape_back p o
+find_back xs mark t (later a (later _ x5)) e o = elim x5 [ ]
 find_back xs mark t (later a (here p)) e o =
     absurd (other p.tells (λ (z : ◌≡◌ {A = ℕ} 13 2). omega arith) (λ (z : ◌≡◌ {A = ℕ} 13 10). omega arith) (λ (z : ◌≡◌ {A = ℕ} 13 11). omega arith) o)
 
 text_back : (xs : List ℕ) (a : ℕ) (t : Told) → TextRefused xs a t → t.text ≡ 1 → OfBlock t.number
     → RightLength xs × ((k : ℕ) × FirstBlock 1 (shape_of xs) k t)
 text_back xs a t (here p) e o = shape_back p o
+text_back xs a t (later ok (later _ x5)) e o = elim x5 [ ]
 text_back xs a t (later ok (here p)) e o = absurd (no_5 p.tells o)
 
 -- ---- a pair
@@ -175,11 +181,13 @@ two_texts e f = sym e ∙ f
 module _ {xs ys : List ℕ} where
   pair_first : {t : Told} → PairRefused xs ys t → t.text ≡ 1 → OfBlock t.number → RightLength xs × ((k : ℕ) × FirstBlock 1 (shape_of xs) k t)
   pair_first (here p) e o = shape_back p o
+  pair_first {t = t} (later a (later _ x5)) e o = elim x5 [ ]
   pair_first (later a (here p)) e o = absurd (let z : ◌≡◌ {A = ℕ} 1 2 = two_texts e (shape_text p) in omega arith)
 
   pair_second : {t : Told} → PairRefused xs ys t → t.text ≡ 2 → OfBlock t.number
       → (Accepted xs × RightLength ys) × ((k : ℕ) × FirstBlock 2 (shape_of ys) k t)
   pair_second (here p) e o = absurd (let z : ◌≡◌ {A = ℕ} 2 1 = two_texts e (shape_text p) in omega arith)
+  pair_second {t = t} (later a (later _ x5)) e o = elim x5 [ ]
   pair_second (later a (here p)) e o = let b = shape_back p o in ((a, b.0), b.1)
 
 -- whatever comes after the refusals of the pair has other numbers
@@ -192,6 +200,7 @@ of_pair_lem c g m R to back = record {
 
 sweep_back : (xs ys : List ℕ) (n : ℕ) (t : Told) → SweepRefused xs ys n t → OfBlock t.number → PairRefused xs ys t
 sweep_back xs ys n t (here p) o = p
+sweep_back xs ys n t (later a (later _ x4)) o = elim x4 [ ]
 sweep_back xs ys n t (later a (here d)) o = absurd (no_5 d.tells o)
 
 -- a pair of a tray whose ranges are inside
@@ -207,12 +216,14 @@ module _ (g : BlocksAndPair) (i : BothInside g) where
 show_back : (xs ys : List ℕ) (w a : ℕ) (t : Told) → ShowRefused xs ys w a t → OfBlock t.number → PairRefused xs ys t
 show_back xs ys w a t (here p) o = p
 show_back xs ys w a t (later ok (here d)) o = absurd (no_4 d.tells o)
+show_back xs ys w a t (later ok (later h (later _ x5))) o = elim x5 [ ]
 show_back xs ys w a t (later ok (later h (here d))) o = absurd (no_5 d.tells o)
 
 narrow_back : (xs ys : List ℕ) (w a b : ℕ) (t : Told) → NarrowRefused xs ys w a b t → OfBlock t.number → PairRefused xs ys t
 narrow_back xs ys w a b t (here p) o = p
 narrow_back xs ys w a b t (later ok (here d)) o = absurd (no_4 d.tells o)
 narrow_back xs ys w a b t (later ok (later h (here d))) o = absurd (no_5 d.tells o)
+narrow_back xs ys w a b t (later ok (later h (later g (later _ x6)))) o = elim x6 [ ]
 narrow_back xs ys w a b t (later ok (later h (later g (here d)))) o = absurd (no_5 d.tells o)
 
 narrow : (R : List ℕ → List ℕ → Type 0) (s : Two) (m : NarrowMemory) → OfPair (narrowing (NarrowPromise R)) s m s.x s.y
@@ -228,6 +239,7 @@ module _ (xs ys zs : List ℕ) (w a b c : ℕ) where
   rest_back t (later g (here p)) o = no_4 p.tells o
   rest_back t (later g (later h (here p))) o = no_5 p.tells o
   rest_back t (later g (later h (later i (here p)))) o = no_5 p.tells o
+  rest_back t (later g (later h (later i (later j (later _ x7))))) o = elim x7 [ ]
   rest_back t (later g (later h (later i (later j (here p))))) o = no_5 p.tells o
 
   join_first : Comes (JoinRefused xs ys zs w a b c) 1 (shape_of xs) (RightLength xs)
@@ -271,6 +283,7 @@ module _ (book : CountsAndRules) (blocks : List ℕ) (k : ℕ) where
 
   rule_number : {i : ℕ} {r : _} {t : Told} → RuleRefused book.counts (shape_of blocks) i r t → OfBlock t.number → ⊥
   rule_number (here d) o = other d.tells (λ (z : ◌≡◌ {A = ℕ} 7 2). omega arith) (λ (z : ◌≡◌ {A = ℕ} 7 10). omega arith) (λ (z : ◌≡◌ {A = ℕ} 7 11). omega arith) o
+  rule_number {i = i} {t = t} (later r (later _ x4)) o = elim x4 [ ]
   rule_number (later r (here d)) o = other d.tells (λ (z : ◌≡◌ {A = ℕ} 12 2). omega arith) (λ (z : ◌≡◌ {A = ℕ} 12 10). omega arith) (λ (z : ◌≡◌ {A = ℕ} 12 11). omega arith) o
 
   book_back : (w : ℕ) → Comes (BookRefused book.counts blocks book.rules w) k (shape_among book blocks k) (TextLookedAt book blocks k)
@@ -278,6 +291,7 @@ module _ (book : CountsAndRules) (blocks : List ℕ) (k : ℕ) where
       absurd (other d.tells (λ (z : ◌≡◌ {A = ℕ} 6 2). omega arith) (λ (z : ◌≡◌ {A = ℕ} 6 10). omega arith) (λ (z : ◌≡◌ {A = ℕ} 6 11). omega arith) o)
   book_back w t (later c (here (m, f))) x o = let g = text_first t f x o in (record { counted = c; named = g.0; before = g.1 }, g.2)
   book_back w t (later c (later s (here (i, f)))) x o = absurd (rule_number f.refused o)
+  book_back w t (later c (later s (later r (later _ x11)))) x o = elim x11 [ ]
   book_back w t (later c (later s (later r (here d)))) x o = absurd (no_4 d.tells o)
 
 module _ (file : List ℕ) (b : Book) (a : FileAccepted file b) (k : ℕ) where
@@ -288,6 +302,9 @@ module _ (file : List ℕ) (b : Book) (a : FileAccepted file b) (k : ℕ) where
   run_back : (w room : ℕ) → Comes (RunRefused file w room) k (shape_among (given_of b) (lent_blocks b) k) (TextLookedAt (given_of b) (lent_blocks b) k)
   run_back w room t (here (here p)) x o =
       absurd (other p.tells (λ (z : ◌≡◌ {A = ℕ} 9 2). omega arith) (λ (z : ◌≡◌ {A = ℕ} 9 10). omega arith) (λ (z : ◌≡◌ {A = ℕ} 9 11). omega arith) o)
+  run_back w room t (here (later s (later _ x10))) x o = elim x10 [ ]
+  run_back w room t (later _ (here (its_book c (later g (later _ x15))))) x o = elim x15 [ ]
+  run_back w room t (later _ (later _ x10)) x o = elim x10 [ ]
   run_back w room t (here (later s (here p))) x o =
       absurd (other p.2 (λ (z : ◌≡◌ {A = ℕ} 8 2). omega arith) (λ (z : ◌≡◌ {A = ℕ} 8 10). omega arith) (λ (z : ◌≡◌ {A = ℕ} 8 11). omega arith) o)
   run_back w room t (later _ (here (its_book c (here p)))) x o =

@@ -83,6 +83,9 @@ number_of e = ap (λ (u : Told). u.number) e
 
 nine_only : {file : List ℕ} {work room : ℕ} {t : Told} → RunRefused file work room t → t.number ≡ 9 → file_limit < length file
 nine_only (here (here p)) f = let n = p.lacking in omega arith
+nine_only {file = file} {work = work} {room = room} {t = t} (here (later s (later _ x6))) f = elim x6 [ ]
+nine_only {file = file} {work = work} {room = room} {t = t} (later _ (here (its_book {b = b} a (later d (later _ x9))))) f = elim x9 [ ]
+nine_only {file = file} {work = work} {room = room} {t = t} (later _ (later _ x7)) f = elim x7 [ ]
 nine_only (here (later s (here p))) f = let h = number_of p.2 in absurd (omega arith)
 nine_only (later _ (here (its_book a (here p)))) f = absurd (book_other 9 (omega arith) (λ (e : ◌≡◌ {A = ℕ} 9 6). omega arith) (λ (e : ◌≡◌ {A = ℕ} 9 7). omega arith) (omega arith) p f)
 nine_only (later _ (here (its_book a (later d (here p))))) f = let h = number_of p.tells in absurd (omega arith)

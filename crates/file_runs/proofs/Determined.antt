@@ -112,6 +112,8 @@ text_report p =
 refused_ends : {file : List ℕ} {room : ℕ} {t : Told} → file_limit ≤ room → RunRefused file 63001 room t → FileEnds file (refused t)
 refused_ends h (here p) = ends-no-book p
 refused_ends h (later _ (here (its_book a (here p)))) = ends-wrong-book a p
+refused_ends {file = file} {room = room} {t = t} h (later _ (here (its_book {b = b} a (later d (later _ x7))))) = elim x7 [ ]
+refused_ends {file = file} {room = room} {t = t} h (later _ (later _ x5)) = elim x5 [ ]
 refused_ends h (later _ (here (its_book a (later d (here g))))) = absurd (g.lacking h)
 
 pub refused_report : {file out kept out' : List ℕ} {t : Told} {n : ℕ} → file_limit ≤ length out → RunRefused file 63001 (length out) t → kept ≡ out

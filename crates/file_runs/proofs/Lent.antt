@@ -33,6 +33,7 @@ use Rattle.file_runs.proofs.Determined.{answer_one}
 
 refused_own : {file : List ℕ} {work room : ℕ} {t : Told} → 63001 ≤ work → RunRefused file work room t → RunRefused file 63001 room t
 refused_own h (here p) = here p
+refused_own {file = file} {work = work} {room = room} {t = t} h (later _ (later _ x4)) = elim x4 [ ]
 refused_own h (later _ (here (its_book a (here p)))) = refused_book a (here (any_work h p))
 refused_own h (later _ (here (its_book a (later d p)))) = refused_book a (later (own_work d) p)
 
@@ -62,10 +63,12 @@ book_other n low six seven high (here p) f = let h = number_of p.tells in omega 
 book_other n low six seven high (later c (here (k, p))) f =
     blocks_tells (NotTold n) (λ i. ((λ e. omega (arith, e)), (λ e. omega (arith, e)), (λ e. omega (arith, e)))) (λ e. omega (arith, e)) p.refused f
 book_other n low six seven high (later c (later s (here (i, p)))) f = rule_tells (NotTold n) (λ e. omega (arith, e)) (λ e. omega (arith, e)) p.refused f
+book_other {counts = counts} {blocks = blocks} {rules = rules} {work = work} {t = t} n low six seven high (later c (later s (later r (later _ x6)))) f = elim x6 [ ]
 book_other n low six seven high (later c (later s (later r (here p)))) f = let h = number_of p.tells in omega arith
 
 file_five : {file : List ℕ} {t : Told} → FileRefused file t → t.number ≡ 5 → ⊥
 file_five (here p) f = let h = number_of p.tells in omega arith
+file_five {file = file} {t = t} (later s (later _ x4)) f = elim x4 [ ]
 file_five (later s (here p)) f = let h = number_of p.2 in omega arith
 
 -- the file is the writing of an accepted book, and only the report has no room
@@ -73,6 +76,8 @@ pub five_last : {file : List ℕ} {work room : ℕ} {t : Told} → RunRefused fi
     → (b : Book) × FileAccepted file b × BookAccepted b.sheet.counts (words_of b.sheet.blocks) (numbers_of_all b.rules) work × (room < file_limit)
 five_last (here p) f = absurd (file_five p f)
 five_last (later _ (here (its_book a (here p)))) f = absurd (book_other 5 (omega arith) (λ (e : ◌≡◌ {A = ℕ} 5 6). omega arith) (λ (e : ◌≡◌ {A = ℕ} 5 7). omega arith) (omega arith) p f)
+five_last {file = file} {work = work} {room = room} {t = t} (later _ (here (its_book {b = b} a (later d (later _ x8))))) f = elim x8 [ ]
+five_last {file = file} {work = work} {room = room} {t = t} (later _ (later _ x6)) f = elim x6 [ ]
 five_last (later _ (here (its_book {b = b} a (later d (here p))))) f = (b, a, d, omega arith)
 
 -- ---- too little work
@@ -97,6 +102,8 @@ less_for_five file out work b c w x q h p r f =
 refused_same : {file : List ℕ} {work room : ℕ} {t : Told} → RunRefused file 63001 room t → (t.number ≡ 5 → ⊥) → RunRefused file work room t
 refused_same (here p) n = here p
 refused_same (later _ (here (its_book a (here p)))) n = refused_book a (here (any_work (omega arith) p))
+refused_same {file = file} {work = work} {room = room} {t = t} (later _ (here (its_book {b = b} a (later d (later _ x8))))) n = elim x8 [ ]
+refused_same {file = file} {work = work} {room = room} {t = t} (later _ (later _ x6)) n = elim x6 [ ]
 refused_same (later _ (here (its_book a (later d (here p))))) n = absurd (n (number_of p.tells))
 
 pub other_refusals : (file out work b c w : List ℕ) (x : Written) (q : Refusal) → LentPromise file out work b w x

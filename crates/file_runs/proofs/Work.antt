@@ -22,4 +22,5 @@ pub any_work : {counts blocks rules : List ℕ} {work other : ℕ} {t : Told} �
 any_work h (here p) = here p
 any_work h (later c (here p)) = later c (here p)
 any_work h (later c (later s (here p))) = later c (later s (here p))
+any_work {counts = counts} {blocks = blocks} {rules = rules} {work = work} {other = other} {t = t} h (later c (later s (later r (later _ x5)))) = elim x5 [ ]
 any_work h (later c (later s (later r (here p)))) = absurd (p.lacking h)

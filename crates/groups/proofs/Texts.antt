@@ -75,6 +75,8 @@ module _ {A : Type 0} where
   pub laid_off : (counts : List ℕ) (j : ℕ) (ks : List ℕ) (xs : List (List A)) (l : List A) → Names counts j → Off ks j → All (Names counts) ks → Sized counts ks xs
       → length l ≡ sum_of counts → part_of counts j (laid_parts counts ks xs l) ≡ part_of counts j l
   unfolding laid_parts
+  laid_off counts j [] (x ∷ xs) l m o a x11 e = elim x11 [ ]
+  laid_off counts j (k ∷ ks) [] l m o a x7 e = elim x7 [ ]
   laid_off counts j [] [] l m o a no_text e = refl
   laid_off counts j (k ∷ ks) (x ∷ xs) l m (more d o) (more n a) (one_text s z) e =
       let w = text_within counts k n.from_one in

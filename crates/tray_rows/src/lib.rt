@@ -17,8 +17,7 @@ pub struct Batch {
     pub row: [AnswerRecord; 66],
 }
 
-// The first n records are lent to the call. It stands by itself, since its proof is by hand: an array of structs is
-// lent.
+// The first n records are lent to the call.
 pub fn sweep_row(blocks: &[u64], pairs: &[u64], mut row: [AnswerRecord; 66], n: usize) -> Batch
     requires { n ≤ 66 }
     ensures { SweepTray blocks.now pairs.now (take n row) (take n result.row) result.tray × (drop n result.row ≡ drop n row) }

@@ -42,9 +42,9 @@ loop-a-preserved c =
       l.invariant.0,
       search rules,
       elim c.if-meets.branch [
-        then-meets w ↦ subst (λ (g : Chosen). ChosenTo x y (l.a + 1) (set_of s.args.own) (set_of s.args.other) g) (sym w.g-is) w.weigh_block-g.ensures
-      | else-meets w ↦ subst (λ (g : Chosen). ChosenTo x y (l.a + 1) (set_of s.args.own) (set_of s.args.other) g) (sym w.g-is)
-          (block_none x y (set_of s.args.own) (set_of s.args.other) s.requires.slotted.0 (omega arith) c.row_at.ensures (c.meets.ensures.not_so w.if-meets.false) l.invariant.2)
+        | then-meets w ↦ subst (λ (g : Chosen). ChosenTo x y (l.a + 1) (set_of s.args.own) (set_of s.args.other) g) (sym w.g-is) w.weigh_block-g.ensures
+        | else-meets w ↦ subst (λ (g : Chosen). ChosenTo x y (l.a + 1) (set_of s.args.own) (set_of s.args.other) g) (sym w.g-is)
+            (block_none x y (set_of s.args.own) (set_of s.args.other) s.requires.slotted.0 (omega arith) c.row_at.ensures (c.meets.ensures.not_so w.if-meets.false) l.invariant.2)
       ],
     )
 

@@ -32,9 +32,9 @@ row_at-requires c = let h = within c in let n = c.requires.slotted.1 in omega ar
 
 pub weigh-g-requires : goal.weigh-g-requires
 weigh-g-requires c = record {
-      slotted = c.requires.slotted.0;
-      i_bound = c.first-i.ensures.1;
-    }
+  slotted = c.requires.slotted.0;
+  i_bound = c.first-i.ensures.1;
+}
 
 pub loop-base-smaller : goal.loop-base-smaller
 loop-base-smaller c = one_fewer (set_of _) _ (without_one (set_of _) c.single.ensures c.without-left.ensures) c.first-i.ensures.0.held

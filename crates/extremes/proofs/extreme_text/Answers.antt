@@ -16,9 +16,9 @@ returns-then-out-lt250 c = (later (accepted (goal.at.returns-then-out-lt250 c).I
 
 pub write_extreme-requires : goal.write_extreme-requires
 write_extreme-requires c = record {
-      accepted = accepted (goal.at.write_extreme-requires c).In-Sound;
-      in_bounds = c.if-out-lt250.false;
-    }
+  accepted = accepted (goal.at.write_extreme-requires c).In-Sound;
+  in_bounds = c.if-out-lt250.false;
+}
 
 pub returns-in-Refused : goal.returns-in-Refused
 returns-in-Refused c = (here (subst (ShapeChecked 1 c.args.shape.now) c.in-Refused.is c.check_lent.ensures), refl)

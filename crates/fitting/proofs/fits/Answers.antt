@@ -19,9 +19,9 @@ returns-then-text-gt250 c =
 
 pub fits_blocks-requires : goal.fits_blocks-requires
 fits_blocks-requires c = record {
-      accepted = accepted (goal.at.fits_blocks-requires c).In-Sound;
-      text_len_bound = c.if-text-gt250.false;
-    }
+  accepted = accepted (goal.at.fits_blocks-requires c).In-Sound;
+  text_len_bound = c.if-text-gt250.false;
+}
 
 pub returns-then-fits_blocks : goal.returns-then-fits_blocks
 returns-then-fits_blocks c = (accepted (goal.at.returns-then-fits_blocks c).In-Sound, c.fits_blocks.ensures.so c.if-fits_blocks.true)

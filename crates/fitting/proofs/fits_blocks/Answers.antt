@@ -7,10 +7,10 @@ use Rattle.fitting.proofs.fits_blocks.Goals as goal
 
 pub add_places-seen-requires : goal.add_places-seen-requires
 add_places-seen-requires c = record {
-      text_len_bound = c.requires.text_len_bound;
-      text_in_bounds = c.if-text-le64.true;
-      table_value = refl;
-    }
+  text_len_bound = c.requires.text_len_bound;
+  text_in_bounds = c.if-text-le64.true;
+  table_value = refl;
+}
 
 pub fits_by-requires : goal.fits_by-requires
 fits_by-requires c =

@@ -13,10 +13,6 @@ first-sound c = subst (ShapeChecked 1 c.args.x.now) c.in-Sound.is c.check_lent.e
 second-sound : (c : In-Sound-check_lent) → Accepted c.args.y.now
 second-sound c = subst (ShapeChecked 2 c.args.y.now) c.in-Sound-check_lent.is c.check_lent-2.ensures
 
--- in the arm where the third shape is sound
-third-sound : (c : In-Sound-check_lent) → Accepted c.args.z.now
-third-sound c = subst (ShapeChecked 3 c.args.z.now) c.in-Sound-check_lent-2.is c.check_lent-3.ensures
-
 pub returns-in-Refused : goal.returns-in-Refused
 returns-in-Refused c = here (subst (ShapeChecked 1 c.args.x.now) c.in-Refused.is c.check_lent.ensures)
 
@@ -27,4 +23,4 @@ pub returns-in-Refused-check_lent-2 : goal.returns-in-Refused-check_lent-2
 returns-in-Refused-check_lent-2 c = later (first-sound (goal.at.returns-in-Refused-check_lent-2 c).In-Sound) (later (second-sound (goal.at.returns-in-Refused-check_lent-2 c).In-Sound-check_lent) (here (subst (ShapeChecked 3 c.args.z.now) c.in-Refused-check_lent-2.is c.check_lent-3.ensures)))
 
 pub check_rest-requires : goal.check_rest-requires
-check_rest-requires c = (first-sound (goal.at.check_rest-requires c).In-Sound, second-sound c, third-sound c)
+check_rest-requires c = (first-sound (goal.at.check_rest-requires c).In-Sound, second-sound (goal.at.check_rest-requires c).In-Sound-check_lent, subst (ShapeChecked 3 c.args.z.now) c.in-Sound-check_lent-2.is c.check_lent-3.ensures)

@@ -5,9 +5,9 @@ use Rattle.order_by_text.proofs.freed.Goals as goal
 
 pub returns-then-is_empty : goal.returns-then-is_empty
 returns-then-is_empty c = record {
-      freed = freed_none (c.is_empty.ensures.so c.if-is_empty.true);
-      chars_len_unchanged = refl;
-    }
+  freed = freed_none (c.is_empty.ensures.so c.if-is_empty.true);
+  chars_len_unchanged = refl;
+}
 
 pub first-requires : goal.first-requires
 first-requires c = c.is_empty.ensures.not_so c.if-is_empty.false

@@ -36,9 +36,9 @@ shape_of-rows-then-is_empty c = long (goal.at.shape_of-rows-then-is_empty c).At-
 
 pub returns-then-is_empty : goal.returns-then-is_empty
 returns-then-is_empty c = record {
-      forth = forth_empty c.loop-q.invariant (c.is_empty.ensures.so c.if-is_empty.true);
-      rows_len_unchanged = long (goal.at.returns-then-is_empty c).At-loop-q;
-    }
+  forth = forth_empty c.loop-q.invariant (c.is_empty.ensures.so c.if-is_empty.true);
+  rows_len_unchanged = long (goal.at.returns-then-is_empty c).At-loop-q;
+}
 
 pub next_mask-mask-requires : goal.next_mask-mask-requires
 next_mask-mask-requires c =
@@ -85,6 +85,6 @@ shape_of-rows c = long (goal.at.shape_of-rows c).At-loop-q
 
 pub returns : goal.returns
 returns c = record {
-      forth = forth_whole c.loop-q.invariant c.loop-q-test.false;
-      rows_len_unchanged = long (goal.at.returns c).At-loop-q;
-    }
+  forth = forth_whole c.loop-q.invariant c.loop-q-test.false;
+  rows_len_unchanged = long (goal.at.returns c).At-loop-q;
+}

@@ -9,9 +9,9 @@ use Rattle.order_guides.proofs.steady_from.Goals as goal
 
 pub returns-then-m-lo : goal.returns-then-m-lo
 returns-then-m-lo c = record {
-      upper_bound = omega arith;
-      steady = λ d strict. steady_one d strict _ _ _ refl;
-    }
+  upper_bound = omega arith;
+  steady = λ d strict. steady_one d strict _ _ _ refl;
+}
 
 pub bounds-text-lo : goal.bounds-text-lo
 bounds-text-lo c = let w = c.requires.plain.within in let h = c.if-m-lo.false in omega arith

@@ -31,7 +31,7 @@ loop-j-init c =
     let pad = set_of s.args.pad in (
       search rules,
       tails_end (total_all y s.args.k (omega arith)) s.requires.whole.2 (ended pad (shape_of y)) (base_end pad (shape_of y)) e.single-end.ensures c.none.ensures (elim c.if-is_empty.branch [
-          then-is_empty w ↦ exactly_at (ap set_of w.takes-is) (takes_none (e.is_empty.ensures.so w.if-is_empty.true) w.none-takes.ensures)
+        | then-is_empty w ↦ exactly_at (ap set_of w.takes-is) (takes_none (e.is_empty.ensures.so w.if-is_empty.true) w.none-takes.ensures)
         | else-is_empty w ↦ exactly_at (ap set_of w.takes-is) (takes_some (e.is_empty.ensures.not_so w.if-is_empty.false) e.single-end.ensures)
       ]),
     )

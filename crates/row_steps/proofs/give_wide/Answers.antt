@@ -16,8 +16,8 @@ loop-j-preserved c =
     let tells = tells_met c.row_at.ensures c.meets.ensures in (
       omega arith,
       elim c.if-meets.branch [
-        then-meets w ↦ giving_so l.invariant.1 (tells.so w.if-meets.true) w.row_at-then-meets.ensures w.either.ensures w.put_row.ensures w.given-is
-      | else-meets w ↦ giving_not l.invariant.1 (tells.not_so w.if-meets.false) w.given-is
+        | then-meets w ↦ giving_so l.invariant.1 (tells.so w.if-meets.true) w.row_at-then-meets.ensures w.either.ensures w.put_row.ensures w.given-is
+        | else-meets w ↦ giving_not l.invariant.1 (tells.not_so w.if-meets.false) w.given-is
       ],
     )
 

@@ -19,8 +19,8 @@ loop-j-preserved c =
     let tells = tells_met (ap (λ (b : Block). b.base) c.block_at-b.ensures.result_value) c.meets.ensures in (
       omega arith,
       picked_more (next_up _) (λ i h m. m) (λ i h m. m) l.invariant.1 (elim c.if-meets.branch [
-        then-meets w ↦ added_so (tells.so w.if-meets.true) w.row_at.ensures (ap set_of w.r-is ∙ w.either-r.ensures)
-      | else-meets w ↦ added_not (tells.not_so w.if-meets.false) (ap set_of w.r-is)
+        | then-meets w ↦ added_so (tells.so w.if-meets.true) w.row_at.ensures (ap set_of w.r-is ∙ w.either-r.ensures)
+        | else-meets w ↦ added_not (tells.not_so w.if-meets.false) (ap set_of w.r-is)
       ]),
     )
 

@@ -27,12 +27,12 @@ loop-j-preserved c =
     let tells = tells_met c.row_at.ensures c.meets.ensures in (
       omega arith,
       picked_more (next_up _) (λ i h m. m) (λ i h m. m) l.invariant.1 (elim c.if-meets.branch [
-        then-meets w ↦ added_so (tells.so w.if-meets.true) (ap (λ (b : Block). b.base) w.block_at-b.ensures.result_value) (ap set_of w.r-is ∙ w.either-r.ensures)
-      | else-meets w ↦ added_not (tells.not_so w.if-meets.false) (ap set_of w.r-is)
+        | then-meets w ↦ added_so (tells.so w.if-meets.true) (ap (λ (b : Block). b.base) w.block_at-b.ensures.result_value) (ap set_of w.r-is ∙ w.either-r.ensures)
+        | else-meets w ↦ added_not (tells.not_so w.if-meets.false) (ap set_of w.r-is)
       ]),
       elim c.if-meets.branch [
-        then-meets w ↦ giving_so l.invariant.2 (tells.so w.if-meets.true) w.row_at-then-meets.ensures w.either.ensures w.put_row.ensures w.given-is
-      | else-meets w ↦ giving_not l.invariant.2 (tells.not_so w.if-meets.false) w.given-is
+        | then-meets w ↦ giving_so l.invariant.2 (tells.so w.if-meets.true) w.row_at-then-meets.ensures w.either.ensures w.put_row.ensures w.given-is
+        | else-meets w ↦ giving_not l.invariant.2 (tells.not_so w.if-meets.false) w.given-is
       ],
     )
 

@@ -5,12 +5,12 @@ use Rattle.row_steps.proofs.with.Goals as goal
 
 pub returns-then-on : goal.returns-then-on
 returns-then-on c = record {
-      result_value = (λ e. c.either.ensures);
-      result_value_2 = (λ e. absurd (true≢false (sym c.if-on.true ∙ e)));
-    }
+  result_value = (λ e. c.either.ensures);
+  result_value_2 = (λ e. absurd (true≢false (sym c.if-on.true ∙ e)));
+}
 
 pub returns : goal.returns
 returns c = record {
-      result_value = (λ e. absurd (true≢false (sym e ∙ c.if-on.false)));
-      result_value_2 = (λ e. refl);
-    }
+  result_value = (λ e. absurd (true≢false (sym e ∙ c.if-on.false)));
+  result_value_2 = (λ e. refl);
+}

@@ -23,5 +23,5 @@ returns c =
     let t = c.loop-i-test.false in
     let all : l.i ≡ c.count-n.result = omega arith in
     promised c.args.blocks.now c.args.pairs.now c.args.row.now l.row c.ending.result c.count-n.ensures
-        (subst (λ (k : ℕ). TrayEnds (length c.args.pairs.now) k c.ending.result) l.invariant.1.same_length c.ending.ensures)
-        (subst (λ (k : ℕ). Filled c.args.blocks.now c.args.pairs.now k c.args.row.now l.row) all l.invariant.1)
+    (subst (λ (k : ℕ). TrayEnds (length c.args.pairs.now) k c.ending.result) l.invariant.1.same_length c.ending.ensures)
+    (subst (λ (k : ℕ). Filled c.args.blocks.now c.args.pairs.now k c.args.row.now l.row) all l.invariant.1)
