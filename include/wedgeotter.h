@@ -1,5 +1,5 @@
 /* Wedgeotter for a host in C: the bytes of a book in, the bytes of its report back. Link with
-   target/staticlib/libdashed.a, which `rt staticlib dashed` writes, for x86-64 Linux. examples/README.md explains books
+   target/staticlib/libdashed.a, which `tests/host/archives` writes, for x86-64 Linux. examples/README.md explains books
    and reports; examples/host/host.c is a small host. */
 #ifndef WEDGEOTTER_H
 #define WEDGEOTTER_H

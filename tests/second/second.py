@@ -58,7 +58,7 @@ above.
 
     B k counts blocks rules    accepted records blocks work z e | refused number text place records blocks work z e
 
-The last of these books come in threes: a book A, a book B with A's texts, no block wider, and all of A's rules, and A
+Not among them yet are books in threes: a book A, a book B with A's texts, no block wider, and all of A's rules, and A
 again as its run leaves it (further.py). `laws` holds what is answered to them to document 02, order 12 (laws.py).
 
 file. A report of k bytes, each 0x5a, and the file's bytes as hex pairs, `-` if it is empty. The report is

@@ -37,7 +37,7 @@ fn count(listed: usize, room: usize) -> usize
 // number. A pair is four numbers: each range's first block, from 0, and the block past its last. A bad pair is refused
 // in its own record; records past the last pair stay.
 //
-// The loop only stores, since its proof is by hand: a slice of structs is written.
+// The loop only stores.
 pub fn sweep_tray(blocks: &[u64], pairs: &[u64], row: &mut [AnswerRecord]) -> Tray
     ensures { TrayPromise blocks.now pairs.now row.old row.new result }
 {

@@ -1,0 +1,10 @@
+-- `test_file::main` is safe and ends: each turn leaves fewer lines that may still come.
+use mathlib.Core.Path.{◌≡◌}
+use lib.ListN.{length}
+use Rattle.test_file.proofs.main.Given as goal
+
+abbrev pub invariant-loop-place : goal.invariant-loop-place
+invariant-loop-place l = 66000 ≡ length l.buffer
+
+abbrev pub decreases-loop-place : goal.decreases-loop-place
+decreases-loop-place l = l.place.left
