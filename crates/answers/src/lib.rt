@@ -25,26 +25,11 @@ pub enum Refusal {
     Pairs,
 }
 
-// Whether a shape is one.
-#[derive(Clone, Copy)]
-pub enum Checked {
-    Sound,
-    Refused(Refusal),
-}
-
 // Whether a text fits a shape.
 #[derive(Clone, Copy)]
 pub enum Fit {
     Fits,
     Unfit,
-    Refused(Refusal),
-}
-
-// A text written to an output: its length.
-#[derive(Clone, Copy)]
-pub enum Written {
-    Text(usize),
-    Refused(Refusal),
 }
 
 // What the quick sweep finds: places, written to the output, or that there cannot be a common text; each with the looks
@@ -53,7 +38,6 @@ pub enum Written {
 pub enum Swept {
     Places(u64),
     Cannot(u64),
-    Refused(Refusal),
 }
 
 // The verdict of the quick sweep on a pair of a tray.
@@ -61,40 +45,25 @@ pub enum Swept {
 pub enum SweepVerdict {
     Places,
     Cannot,
-    Refused(Refusal),
 }
 
-// The answer record of a pair of a tray: the verdict, with its refusal, and the looks made, 0 where it is refused.
+// The answer record of a pair of a tray: the verdict, or its refusal, and the looks made, 0 where it is refused.
 #[derive(Clone, Copy)]
 pub struct AnswerRecord {
-    pub verdict: SweepVerdict,
+    pub verdict: Result<SweepVerdict, Refusal>,
     pub looks: u64,
 }
 
-// How the call on a whole tray ends: each pair has its answer record, or none has.
-#[derive(Clone, Copy)]
-pub enum Tray {
-    Judged,
-    Refused(Refusal),
-}
-
 // What narrowing finds: the narrowed shapes, written to the outputs, or that no pair of texts satisfies the relation.
+// Neither has a value, so that an Option would say less than the two names.
 #[derive(Clone, Copy)]
 pub enum Narrowed {
     Narrow,
     None,
-    Refused(Refusal),
 }
 
-// The earliest common text of two shapes, written to an output: its length; or that no text fits both.
-#[derive(Clone, Copy)]
-pub enum Shown {
-    Text(usize),
-    None,
-    Refused(Refusal),
-}
-
-// How a run of rules ends: with stable shapes or in none; each with the applications made.
+// How a run of rules ends: with stable shapes or in none; each with the applications made, so that neither is an
+// absence.
 #[derive(Clone, Copy)]
 pub enum Ended {
     Stable(u64),
@@ -109,10 +78,11 @@ pub struct TextRan {
     pub ended: Ended,
 }
 
-// How the run of a book ends: it is accepted or refused; then a record for each text, and up to eight of no text.
+// How the run of a book ends: it is accepted or refused; then a record for each text, and up to eight of no text. The
+// records stand beside a refusal too, as `RunPromise` says of them.
 #[derive(Clone, Copy)]
 pub struct Ran {
-    pub checked: Checked,
+    pub checked: Result<(), Refusal>,
     pub texts: [TextRan; 8],
 }
 
@@ -129,71 +99,47 @@ pub enum Sought {
     Nowhere,
     InSome(Index, Index),
     InAll(Index, Index),
-    Refused(Refusal),
 }
 
-pub fn number(r: Refusal) -> u64
-    ensures { result ≡ (told r).number }
-{
-    match r {
-        Refusal::Length(_) => 1,
-        Refusal::Crossed(_, _) => 2,
-        Refusal::TooLarge(_, _) => 10,
-        Refusal::Disagree(_, _) => 11,
-        Refusal::Total(_) => 3,
-        Refusal::Work => 4,
-        Refusal::Output(_) => 5,
-        Refusal::Counts => 6,
-        Refusal::Rule(_) => 7,
-        Refusal::Join(_) => 12,
-        Refusal::Line(_) => 8,
-        Refusal::Size => 9,
-        Refusal::Mark => 13,
-        Refusal::Range(_) => 14,
-        Refusal::Pairs => 15,
+impl Refusal {
+    // Its number, text and place.
+    fn told(self) -> (u64, u64, u64)
+        ensures { result ≡ ((told self).number, (told self).text, (told self).place) }
+    {
+        match self {
+            Refusal::Length(shape) => (1, shape, 0),
+            Refusal::Crossed(shape, block) => (2, shape, block),
+            Refusal::TooLarge(shape, block) => (10, shape, block),
+            Refusal::Disagree(shape, block) => (11, shape, block),
+            Refusal::Total(shape) => (3, shape, 0),
+            Refusal::Work => (4, 0, 0),
+            Refusal::Output(output) => (5, output, 0),
+            Refusal::Counts => (6, 0, 0),
+            Refusal::Rule(rule) => (7, 0, rule),
+            Refusal::Join(rule) => (12, 0, rule),
+            Refusal::Line(line) => (8, 0, line),
+            Refusal::Size => (9, 0, 0),
+            Refusal::Mark => (13, 0, 0),
+            Refusal::Range(range) => (14, range, 0),
+            Refusal::Pairs => (15, 0, 0),
+        }
     }
-}
 
-pub fn text(r: Refusal) -> u64
-    ensures { result ≡ (told r).text }
-{
-    match r {
-        Refusal::Length(shape) => shape,
-        Refusal::Crossed(shape, _) => shape,
-        Refusal::TooLarge(shape, _) => shape,
-        Refusal::Disagree(shape, _) => shape,
-        Refusal::Total(shape) => shape,
-        Refusal::Work => 0,
-        Refusal::Output(output) => output,
-        Refusal::Counts => 0,
-        Refusal::Rule(_) => 0,
-        Refusal::Join(_) => 0,
-        Refusal::Line(_) => 0,
-        Refusal::Size => 0,
-        Refusal::Mark => 0,
-        Refusal::Range(range) => range,
-        Refusal::Pairs => 0,
+    pub fn number(self) -> u64
+        ensures { result ≡ (told self).number }
+    {
+        self.told().0
     }
-}
 
-pub fn place(r: Refusal) -> u64
-    ensures { result ≡ (told r).place }
-{
-    match r {
-        Refusal::Length(_) => 0,
-        Refusal::Crossed(_, block) => block,
-        Refusal::TooLarge(_, block) => block,
-        Refusal::Disagree(_, block) => block,
-        Refusal::Total(_) => 0,
-        Refusal::Work => 0,
-        Refusal::Output(_) => 0,
-        Refusal::Counts => 0,
-        Refusal::Rule(rule) => rule,
-        Refusal::Join(rule) => rule,
-        Refusal::Line(line) => line,
-        Refusal::Size => 0,
-        Refusal::Mark => 0,
-        Refusal::Range(_) => 0,
-        Refusal::Pairs => 0,
+    pub fn text(self) -> u64
+        ensures { result ≡ (told self).text }
+    {
+        self.told().1
+    }
+
+    pub fn place(self) -> u64
+        ensures { result ≡ (told self).place }
+    {
+        self.told().2
     }
 }

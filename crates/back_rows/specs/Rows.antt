@@ -1,5 +1,6 @@
 -- Equality's second pass over one block: rows from its end, one after the other, and what is gathered on the way.
 use Rattle.std.specs.Prelude.{List, ℕ, ◌+◌, ◌≤◌, ◌<◌}
+use Rattle.sets.specs.declared.Set.{Set}
 use Rattle.sets.specs.Set.{set_of, Exactly}
 use Rattle.shapes.specs.Shape.{Block}
 use Rattle.pads.specs.Pad.{PadPath}
@@ -22,11 +23,11 @@ RowBack f stop o p b g r X Y U W = o < b.upper → Exactly f (λ j. PadPath X Y 
     → GatheredAt X Y U W (p + o + 1) (p + b.upper) g → GatheredAt X Y U W (p + o) (p + b.upper) r
 
 -- The rows of the block from o on, where `stop` is the row at its end.
-abbrev pub RowsBack : List ℕ → ℕ → ℕ → ℕ → Block → Gathered → Gathered → (ℕ → Block) → (ℕ → Block) → ℕ → ℕ → Type 0
+abbrev pub RowsBack : List Set → ℕ → ℕ → ℕ → Block → Gathered → Gathered → (ℕ → Block) → (ℕ → Block) → ℕ → ℕ → Type 0
 RowsBack rows stop o p b g r X Y U W = ((h : ℕ) → h < b.upper → Exactly (row_in rows (p + h)) (λ j. PadPath X Y (p + h) j 0 0))
     → GatheredAt X Y U W (p + b.upper) (p + b.upper) g → Exactly stop (λ j. PadPath X Y U W (p + b.upper) j) × GatheredAt X Y U W (p + o) (p + b.upper) r
 
 -- All rows of a block.
-abbrev pub BlockBack : List ℕ → ℕ → Block → Gathered → Gathered → (ℕ → Block) → (ℕ → Block) → ℕ → ℕ → Type 0
+abbrev pub BlockBack : List Set → ℕ → Block → Gathered → Gathered → (ℕ → Block) → (ℕ → Block) → ℕ → ℕ → Type 0
 BlockBack rows p b g r X Y U W = ((o : ℕ) → o < b.upper → Exactly (row_in rows (p + o)) (λ j. PadPath X Y (p + o) j 0 0))
     → GatheredAt X Y U W (p + b.upper) (p + b.upper) g → GatheredAt X Y U W p (p + b.upper) r

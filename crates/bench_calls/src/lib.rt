@@ -3,27 +3,24 @@
 
 #![tactic(auto)]
 
-ghost use Rattle.std.specs.Prelude.{◌+◌, ◌≤◌, ◌<◌, length};
+ghost use Rattle.std.specs.Prelude.{◌<◌};
 
-use answers::{
-    AnswerRecord, Checked, Ended, Fit, Narrowed, Shown, Sought, SweepVerdict, Swept, TextRan, Tray,
-    Written,
-};
+use answers::{AnswerRecord, Ended, Fit, Narrowed, Refusal, Sought, SweepVerdict, Swept, TextRan};
 
 #[unsafe(no_mangle)]
 pub extern "C" fn wedgeotter_fits(shape: &[u64], text: &[u8]) -> u64 {
     match dashed::fits(shape, text) {
-        Fit::Fits => 1,
-        Fit::Unfit => 0,
-        Fit::Refused(_) => 1000,
+        Ok(Fit::Fits) => 1,
+        Ok(Fit::Unfit) => 0,
+        Err(_) => 1000,
     }
 }
 
 // The text's length.
-fn written(answer: Written) -> u64 {
+fn written(answer: Result<usize, Refusal>) -> u64 {
     match answer {
-        Written::Text(n) => n as u64,
-        Written::Refused(_) => 1000,
+        Ok(n) => n as u64,
+        Err(_) => 1000,
     }
 }
 
@@ -42,10 +39,12 @@ pub extern "C" fn wedgeotter_greatest(shape: &[u64], out: &mut [u8]) -> u64 {
 #[unsafe(no_mangle)]
 pub extern "C" fn wedgeotter_find(shape: &[u64], mark: &[u8]) -> u64 {
     match dashed::find(shape, mark) {
-        Sought::Nowhere => 0,
-        Sought::InSome(least, greatest) => 1000000 + least.at % 1000 * 1000 + greatest.at % 1000,
-        Sought::InAll(least, greatest) => least.at % 1000 * 1000 + greatest.at % 1000,
-        Sought::Refused(_) => 1000,
+        Ok(Sought::Nowhere) => 0,
+        Ok(Sought::InSome(least, greatest)) => {
+            1000000 + least.at % 1000 * 1000 + greatest.at % 1000
+        }
+        Ok(Sought::InAll(least, greatest)) => least.at % 1000 * 1000 + greatest.at % 1000,
+        Err(_) => 1000,
     }
 }
 
@@ -53,9 +52,9 @@ pub extern "C" fn wedgeotter_find(shape: &[u64], mark: &[u8]) -> u64 {
 #[unsafe(no_mangle)]
 pub extern "C" fn wedgeotter_sweep(x: &[u64], y: &[u64], out: &mut [u64]) -> u64 {
     match dashed::sweep(x, y, out) {
-        Swept::Places(k) => k,
-        Swept::Cannot(_) => 100000,
-        Swept::Refused(_) => 1000,
+        Ok(Swept::Places(k)) => k,
+        Ok(Swept::Cannot(_)) => 100000,
+        Err(_) => 1000,
     }
 }
 
@@ -63,22 +62,19 @@ pub extern "C" fn wedgeotter_sweep(x: &[u64], y: &[u64], out: &mut [u64]) -> u64
 fn answer(record: AnswerRecord) -> u64
     ensures { result < 262144 }
 {
-    let verdict = record.verdict;
     let looks = record.looks % 65536;
-    match verdict {
-        SweepVerdict::Places => looks,
-        SweepVerdict::Cannot => 65536 + looks,
-        SweepVerdict::Refused(_) => 131072,
+    match record.verdict {
+        Ok(SweepVerdict::Places) => looks,
+        Ok(SweepVerdict::Cannot) => 65536 + looks,
+        Err(_) => 131072,
     }
 }
 
 // The answers of the first 64 records in one number, the later ones counting less.
 fn answers_of(row: [AnswerRecord; 66]) -> u64 {
     let mut sum: u64 = 0;
-    let mut i: usize = 0;
-    while i < 64 {
+    for i in 0..64 {
         sum = sum % 4294967296 * 3 + answer(row[i]);
-        i += 1;
     }
     sum
 }
@@ -87,26 +83,22 @@ fn answers_of(row: [AnswerRecord; 66]) -> u64 {
 #[unsafe(no_mangle)]
 pub extern "C" fn wedgeotter_tray(blocks: &[u64], pairs: &[u64]) -> u64 {
     let found = AnswerRecord {
-        verdict: SweepVerdict::Cannot,
+        verdict: Ok(SweepVerdict::Cannot),
         looks: 0,
     };
     let batch = tray_rows::sweep_row(blocks, pairs, [found; 66], 64);
-    let tray = batch.tray;
-    match tray {
-        Tray::Judged => {
-            let row = batch.row;
-            answers_of(row)
-        }
-        Tray::Refused(_) => 1,
+    match batch.tray {
+        Ok(()) => answers_of(batch.row),
+        Err(_) => 1,
     }
 }
 
 // 1 for narrowed shapes, 0 for none.
-fn narrowed(answer: Narrowed) -> u64 {
+fn narrowed(answer: Result<Narrowed, Refusal>) -> u64 {
     match answer {
-        Narrowed::Narrow => 1,
-        Narrowed::None => 0,
-        Narrowed::Refused(_) => 1000,
+        Ok(Narrowed::Narrow) => 1,
+        Ok(Narrowed::None) => 0,
+        Err(_) => 1000,
     }
 }
 
@@ -182,36 +174,18 @@ pub extern "C" fn wedgeotter_join(
 #[unsafe(no_mangle)]
 pub extern "C" fn wedgeotter_common(x: &[u64], y: &[u64], work: &mut [u8], out: &mut [u8]) -> u64 {
     match dashed::common_text(x, y, work, out) {
-        Shown::Text(n) => n as u64,
-        Shown::None => 2000,
-        Shown::Refused(_) => 1000,
+        Ok(Some(n)) => n as u64,
+        Ok(None) => 2000,
+        Err(_) => 1000,
     }
 }
 
-// Whether a group is none, and the applications made.
-fn is_none(ended: Ended) -> u64 {
-    match ended {
-        Ended::Stable(_) => 0,
-        Ended::None(_) => 1,
+// The name of a text's group, whether it is none, and the applications made.
+fn record_of(text: TextRan) -> [u64; 3] {
+    match text.ended {
+        Ended::Stable(n) => [text.group, 0, n],
+        Ended::None(n) => [text.group, 1, n],
     }
-}
-
-fn applications(ended: Ended) -> u64 {
-    match ended {
-        Ended::Stable(n) => n,
-        Ended::None(n) => n,
-    }
-}
-
-fn put_record(text: TextRan, records: &mut [u64], at: usize)
-    requires { at + 3 ≤ length records.old }
-{
-    let ended = text.ended;
-    let none = is_none(ended);
-    let made = applications(ended);
-    records[at] = text.group;
-    records[at + 1] = none;
-    records[at + 2] = made;
 }
 
 // The records of eight texts as three numbers each, if there is room for them.
@@ -219,10 +193,8 @@ fn put_records(texts: [TextRan; 8], records: &mut [u64]) {
     if records.len() < 24 {
         return;
     }
-    let mut k = 0;
-    while k < 8 {
-        put_record(texts[k], records, 3 * k);
-        k += 1;
+    for (k, text) in texts.iter().enumerate() {
+        records[3 * k..3 * k + 3].copy_from_slice(&record_of(*text));
     }
 }
 
@@ -236,12 +208,10 @@ pub extern "C" fn wedgeotter_book(
     records: &mut [u64],
 ) -> u64 {
     let ran = dashed::run_book(counts, blocks, rules, work);
-    let checked = ran.checked;
-    let texts = ran.texts;
-    put_records(texts, records);
-    match checked {
-        Checked::Sound => 0,
-        Checked::Refused(_) => 2097152,
+    put_records(ran.texts, records);
+    match ran.checked {
+        Ok(()) => 0,
+        Err(_) => 2097152,
     }
 }
 
@@ -249,7 +219,7 @@ pub extern "C" fn wedgeotter_book(
 #[unsafe(no_mangle)]
 pub extern "C" fn wedgeotter_file(file: &[u8], report: &mut [u8]) -> u64 {
     match dashed::run_file(file, report) {
-        Written::Text(n) => n as u64,
-        Written::Refused(_) => 2097152,
+        Ok(n) => n as u64,
+        Err(_) => 2097152,
     }
 }

@@ -1,9 +1,7 @@
 -- Document 01, "A book and its run", and document 02, order 11: what the call that runs a book promises. "Grammar,
 -- counts, the 16-rule limit and any refusal are still common to all."
-use Rattle.std.specs.Prelude.{◌≡◌, List, [], ℕ, length}
+use Rattle.std.specs.Prelude.{◌≡◌, List, [], ℕ, length, Result, Ok, Err}
 use Rattle.answers.specs.Told.{told}
-use Rattle.answers.specs.declared.Checked.{Checked}
-use Rattle.answers.specs.declared.Checked.TheVariants.{Sound as is-sound, Refused}
 use Rattle.answers.specs.declared.Refusal.{Refusal}
 use Rattle.answers.specs.declared.Ran.{Ran}
 use Rattle.answers.specs.declared.TextRan.{TextRan}
@@ -13,10 +11,10 @@ use Rattle.groups.specs.Ends.{filled, RowRan}
 
 -- An accepted book is run, and the work buffer cleared; a refused one leaves blocks and work, and all eight records are
 -- those of no text.
-abbrev pub PromiseFor : List ℕ → List ℕ → List ℕ → List ℕ → List ℕ → List ℕ → List TextRan → Checked → Type 0
-PromiseFor counts blocks rules work blocks' work' row is-sound =
+abbrev pub PromiseFor : List ℕ → List ℕ → List ℕ → List ℕ → List ℕ → List ℕ → List TextRan → Result Unit Refusal → Type 0
+PromiseFor counts blocks rules work blocks' work' row (Ok _) =
     BookAccepted counts blocks rules (length work) × RowRan counts blocks rules blocks' row × Cleared work work'
-PromiseFor counts blocks rules work blocks' work' row (Refused q) =
+PromiseFor counts blocks rules work blocks' work' row (Err q) =
     BookRefused counts blocks rules (length work) (told q) × (blocks' ≡ blocks) × (work' ≡ work) × (row ≡ filled [])
 
 -- The run of a book: blocks and work before and after the call.
@@ -25,7 +23,7 @@ RunPromise counts blocks rules work blocks' work' r = PromiseFor counts blocks r
 
 -- The answers: accepted with these records, or refused.
 abbrev pub ran : List TextRan → Ran
-ran row = record { checked = is-sound; texts = row }
+ran row = record { checked = Ok tt; texts = row }
 
 abbrev pub refused_run : Refusal → Ran
-refused_run q = record { checked = Refused q; texts = filled [] }
+refused_run q = record { checked = Err q; texts = filled [] }

@@ -9,6 +9,7 @@ ghost use Rattle.book_runs.specs.Runner.{EndedSays, RunLeft};
 
 use answers::Ended;
 use book_steps::Applied;
+use kinds::Relation;
 
 // Applies rule j to the numbers so far.
 fn apply_rule(counts: &[u64], numbers: &mut [u64], rules: &[u64], j: usize) -> Applied
@@ -17,10 +18,10 @@ fn apply_rule(counts: &[u64], numbers: &mut [u64], rules: &[u64], j: usize) -> A
     ensures { AppliedSays counts.now rules.now j numbers.old numbers.new result }
 {
     let rule = rules::rule_at(rules, j);
-    if rule.kind == rules::JOIN {
-        return join_rules::apply_three(counts, numbers, rule);
+    match Relation::of(rule.kind) {
+        Some(relation) => two_rules::apply_two(counts, numbers, rule, relation),
+        None => join_rules::apply_three(counts, numbers, rule),
     }
-    two_rules::apply_two(counts, numbers, rule)
 }
 
 // The rounds, from the entered numbers.
@@ -28,30 +29,19 @@ fn run_rounds(counts: &[u64], numbers: &mut [u64], rules: &[u64]) -> Ended
     requires { Running counts.now numbers.old rules.now }
     ensures { EndedSays counts.now rules.now numbers.old numbers.new result }
 {
-    let n = rules.len() / rules::SIZE; // the rules of a round
-    let mut k = 0;
-    let mut changed = false;
     let mut made = 0;
     loop {
-        if k == n {
-            if !changed {
-                return Ended::Stable(made);
+        let mut changed = false;
+        for j in 0..rules.len() / rules::SIZE {
+            made += 1;
+            match apply_rule(counts, numbers, rules, j) {
+                Applied::None => return Ended::None(made),
+                Applied::Same => {}
+                Applied::Changed => changed = true,
             }
-            k = 0;
-            changed = false;
-        } else {
-            match apply_rule(counts, numbers, rules, k) {
-                Applied::None => return Ended::None(made + 1),
-                Applied::Same => {
-                    k += 1;
-                    made += 1;
-                }
-                Applied::Changed => {
-                    k += 1;
-                    made += 1;
-                    changed = true;
-                }
-            }
+        }
+        if !changed {
+            return Ended::Stable(made);
         }
     }
 }
@@ -62,14 +52,12 @@ pub fn run_accepted(counts: &[u64], blocks: &mut [u64], rules: &[u64]) -> Ended
     requires { Running counts.now blocks.old rules.now }
     ensures { RunLeft counts.now rules.now blocks.old blocks.new result }
 {
-    let n = blocks.len();
-    let mut numbers = [0u64; rules::BLOCKS * shapes::SIZE];
-    laying::lay(&mut numbers, 0, blocks);
-    match run_rounds(counts, &mut numbers[..n], rules) {
-        Ended::None(m) => Ended::None(m),
-        Ended::Stable(m) => {
-            laying::lay(blocks, 0, &numbers[..n]);
-            Ended::Stable(m)
-        }
+    let mut copy = [0u64; rules::BLOCKS * shapes::SIZE];
+    let numbers = &mut copy[..blocks.len()];
+    numbers.copy_from_slice(blocks);
+    let ended = run_rounds(counts, numbers, rules);
+    if let Ended::Stable(_) = ended {
+        blocks.copy_from_slice(numbers);
     }
+    ended
 }

@@ -11,13 +11,7 @@ use rules::Rule;
 pub fn names(counts: &[u64], k: u64) -> bool
     ensures { Tells result (Names counts.now k) }
 {
-    if k == 0 {
-        return false;
-    }
-    if (counts.len() as u64) < k {
-        return false;
-    }
-    true
+    1 <= k && k <= counts.len() as u64
 }
 
 // Whether a rule's fourth number is right: in a join a third text, else 0.
@@ -27,36 +21,16 @@ fn right_fourth(counts: &[u64], rule: Rule) -> bool
     if rule.kind != rules::JOIN {
         return rule.c == 0;
     }
-    if !names(counts, rule.c) {
-        return false;
-    }
-    if rule.a == rule.c {
-        return false;
-    }
-    if rule.b == rule.c {
-        return false;
-    }
-    true
+    names(counts, rule.c) && rule.a != rule.c && rule.b != rule.c
 }
 
 // Whether a rule is right. The numbers may be any.
 pub fn right_rule(counts: &[u64], rule: Rule) -> bool
     ensures { Tells result (RightRule counts.now rule) }
 {
-    if rules::ANY_CASE < rule.kind {
-        return false;
-    }
-    if !names(counts, rule.a) {
-        return false;
-    }
-    if !names(counts, rule.b) {
-        return false;
-    }
-    if rule.a == rule.b {
-        return false;
-    }
-    if !right_fourth(counts, rule) {
-        return false;
-    }
-    true
+    rule.kind <= rules::ANY_CASE
+        && names(counts, rule.a)
+        && names(counts, rule.b)
+        && rule.a != rule.b
+        && right_fourth(counts, rule)
 }

@@ -6,4 +6,3 @@ pub mod Laid
 pub mod Looks
 pub mod Once
 pub mod Narrowed
-pub mod Texts

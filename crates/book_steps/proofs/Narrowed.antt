@@ -1,7 +1,7 @@
 -- What narrowing answers for the texts of a rule, read as new shapes of the texts that it looks at; and back. Assumes
 -- nothing.
 use mathlib.Core.Path.{◌≡◌, refl, sym, ap, ap₂, ◌∙◌, subst, subst₂}
-use mathlib.Core.Bool.{Bool, true}
+use mathlib.Core.Bool.{Bool, true, false, ◌&&◌}
 use mathlib.Core.List.{List, [], ◌∷◌, ◌++◌, append-nil}
 use Prim.Native.Nat.{ℕ, ◌+◌, ◌*◌, ◌≤◌}
 use native.Mathlib.Omega.{arith}
@@ -11,7 +11,7 @@ use Rattle.plain.specs.Tells.{Tells}
 use Rattle.rules.specs.declared.Rule.{Rule}
 use Rattle.plain.specs.All.{All}
 use Rattle.shapes.specs.Shape.{Block, total, block_size}
-use Rattle.shapes.specs.Lent.{shape_of, words_of}
+use Rattle.shapes.specs.Lent.{Numbers, shape_of, words_of}
 use Rattle.shapes.proofs.Lent.{shape_length}
 use Rattle.shapes.proofs.Numbers.{words_length}
 use Rattle.texts.specs.Kind.{relation_of, join_kind}
@@ -23,11 +23,13 @@ use Rattle.laying.specs.Laid.{replaced}
 use Rattle.books.specs.Counts.{RightCount, count_of, first_of}
 use Rattle.books.specs.Rules.{Names, RightRule, Joinable, asks}
 use Rattle.books.specs.Code.{numbers_in}
-use Rattle.book_steps.specs.Step.{Standing}
+use Rattle.book_steps.specs.Step.{Standing, RuleApplied}
+use Rattle.book_steps.specs.declared.Applied.TheVariants.{Same, Changed}
 use Rattle.book_steps.proofs.Parts.{join_all, part_of, parts_of, part_size, Sized, no_text, one_text}
 use Rattle.book_steps.proofs.Frame.{rule_none, rule_narrows_back, rule_none_back}
 use Rattle.book_steps.proofs.Standing.{blocks_size, blocks_sound, text_shape, text_size, text_accepted}
 use Rattle.book_steps.proofs.Laid.{laid_one, Lays, all_laid, then_lay}
+use Rattle.book_steps.proofs.Once.{says_same, says_changed}
 use Rattle.book_steps.proofs.Looks.{two_looks, three_looks, named_third}
 
 -- two or three lists, and nothing, end to end
@@ -102,11 +104,16 @@ module _ {counts xs : List ℕ} (d : Standing counts xs) where
             (subst (λ (Q : List (List ℕ) → Type 0). Hull Q both (n.first ++ n.second)) entered_two n.hull)
 
         -- laid back one after the other
-        pub two_lays : {mid ys : List ℕ} {m s : Bool} → mid ≡ replaced (first_of counts t.a * block_size) (take (count_of counts t.a * block_size) ox') xs → Tells m ((true ≡ true) × (mid ≡ xs))
-            → ys ≡ replaced (first_of counts t.b * block_size) (take (count_of counts t.b * block_size) oy') mid → Tells s ((m ≡ true) × (ys ≡ mid))
-            → Lays counts (t.a ∷ (t.b ∷ [])) new_two xs ys true s
-        two_lays {mid = mid} e p f q =
-            then_lay (new_laid t.a xs _ n.first first_of_two n.first_output e) p (then_lay (new_laid t.b mid _ n.second second_of_two n.second_output f) q all_laid)
+        module _ (w : Numbers xs) {mid ys : List ℕ} {m s : Bool} (e : mid ≡ replaced (first_of counts t.a * block_size) (take (count_of counts t.a * block_size) ox') xs) (p : Tells m (mid ≡ xs))
+            (f : ys ≡ replaced (first_of counts t.b * block_size) (take (count_of counts t.b * block_size) oy') mid) (q : Tells s (ys ≡ mid)) where
+          two_lays : Lays counts (t.a ∷ (t.b ∷ [])) new_two xs ys (m && (s && true))
+          two_lays = then_lay (new_laid t.a xs _ n.first first_of_two n.first_output e) p (then_lay (new_laid t.b mid _ n.second second_of_two n.second_output f) q all_laid)
+
+          pub two_same : m && (s && true) ≡ true → RuleApplied counts t xs ys Same
+          two_same = says_same d (two_looks counts t right no_join) two_sized two_hull w two_lays
+
+          pub two_changed : m && (s && true) ≡ false → RuleApplied counts t xs ys Changed
+          two_changed = says_changed d (two_looks counts t right no_join) two_sized two_hull w two_lays
 
       -- what the rule makes of all blocks is, at its two texts, what narrowing answers for them
       pub two_back : {J : List Block} (ox oy : List ℕ) → Hull (asks counts t) (shape_of xs) J
@@ -186,14 +193,20 @@ module _ {counts xs : List ℕ} (d : Standing counts xs) where
         three_hull = subst₂ (Hull Joined) (sym three_parts) (sym (three_end n.first n.second n.third))
             (subst (λ (Q : List (List ℕ) → Type 0). Hull Q three (n.first ++ (n.second ++ n.third))) entered_three n.hull)
 
-        pub three_lays : {one two ys : List ℕ} {m p s : Bool} → one ≡ replaced (first_of counts t.a * block_size) (take (count_of counts t.a * block_size) ox') xs
-            → Tells m ((true ≡ true) × (one ≡ xs))
-            → two ≡ replaced (first_of counts t.b * block_size) (take (count_of counts t.b * block_size) oy') one → Tells p ((m ≡ true) × (two ≡ one))
-            → ys ≡ replaced (first_of counts t.c * block_size) (take (count_of counts t.c * block_size) oz') two → Tells s ((p ≡ true) × (ys ≡ two))
-            → Lays counts (t.a ∷ (t.b ∷ (t.c ∷ []))) new_three xs ys true s
-        three_lays {one = one} {two = two} e p f q g u =
-            then_lay (new_laid t.a xs _ n.first first_of_three n.first_output e) p
-            (then_lay (new_laid t.b one _ n.second second_of_three n.second_output f) q (then_lay (new_laid t.c two _ n.third third_of_three n.third_output g) u all_laid))
+        module _ (w : Numbers xs) {one two ys : List ℕ} {m p s : Bool} (e : one ≡ replaced (first_of counts t.a * block_size) (take (count_of counts t.a * block_size) ox') xs)
+            (h : Tells m (one ≡ xs))
+            (f : two ≡ replaced (first_of counts t.b * block_size) (take (count_of counts t.b * block_size) oy') one) (q : Tells p (two ≡ one))
+            (g : ys ≡ replaced (first_of counts t.c * block_size) (take (count_of counts t.c * block_size) oz') two) (u : Tells s (ys ≡ two)) where
+          three_lays : Lays counts (t.a ∷ (t.b ∷ (t.c ∷ []))) new_three xs ys (m && (p && (s && true)))
+          three_lays =
+              then_lay (new_laid t.a xs _ n.first first_of_three n.first_output e) h
+              (then_lay (new_laid t.b one _ n.second second_of_three n.second_output f) q (then_lay (new_laid t.c two _ n.third third_of_three n.third_output g) u all_laid))
+
+          pub three_same : m && (p && (s && true)) ≡ true → RuleApplied counts t xs ys Same
+          three_same = says_same d (three_looks counts t right join) three_sized three_hull w three_lays
+
+          pub three_changed : m && (p && (s && true)) ≡ false → RuleApplied counts t xs ys Changed
+          three_changed = says_changed d (three_looks counts t right join) three_sized three_hull w three_lays
 
       pub three_back : {J : List Block} (ox oy oz : List ℕ) → Hull (asks counts t) (shape_of xs) J
           → JoinNarrows (numbers_in counts xs t.a) (numbers_in counts xs t.b) (numbers_in counts xs t.c) ox oy oz

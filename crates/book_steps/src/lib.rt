@@ -3,7 +3,7 @@
 
 #![tactic(auto)]
 
-ghost use Rattle.std.specs.Prelude.{◌≡◌, true, ◌*◌, ◌≤◌, length, take};
+ghost use Rattle.std.specs.Prelude.{◌≡◌, ◌*◌, ◌≤◌, length, take};
 ghost use Rattle.plain.specs.Tells.{Tells};
 ghost use Rattle.laying.specs.Laid.{replaced};
 ghost use Rattle.plain.specs.All.{All};
@@ -12,7 +12,7 @@ ghost use Rattle.books.specs.Counts.{sum_of, RightCount, count_of, first_of};
 ghost use Rattle.books.specs.Rules.{Names};
 ghost use Rattle.rules.specs.Limits.{most_texts};
 
-// What one application of a rule does to the numbers so far.
+// What one application of a rule does to the numbers so far: one of three, with no value.
 #[derive(Clone, Copy)]
 pub enum Applied {
     None,
@@ -20,24 +20,19 @@ pub enum Applied {
     Changed,
 }
 
-// Lays the new numbers of text k, the first of x, over its old ones. Whether nothing is changed, by this or, as `same`
-// says, before.
-pub fn lay_text(counts: &[u64], numbers: &mut [u64], k: u64, x: &[u64], same: bool) -> bool
+// Lays the new numbers of text k, the first of x, over its old ones. Whether they are the same.
+pub fn lay_text(counts: &[u64], numbers: &mut [u64], k: u64, x: &[u64]) -> bool
     requires all { All RightCount counts.now }
     requires counts_len_bound { length counts.now ≤ most_texts }
     requires numbers_len { length numbers.old ≡ sum_of counts.now * block_size }
     requires names { Names counts.now k }
     requires block_size_in_bounds { most_blocks * block_size ≤ length x.now }
-    ensures tells { Tells result ((same ≡ true) × (numbers.new ≡ numbers.old)) }
+    ensures tells { Tells result (numbers.new ≡ numbers.old) }
     ensures numbers_after { numbers.new ≡ replaced (first_of counts.now k * block_size) (take (count_of counts.now k * block_size) x.now) numbers.old }
 {
-    let range = books::range_of(counts, k as usize);
-    let from = range.from;
-    let to = range.to;
-    let n = to - from;
-    if laying::same_numbers(&numbers[from..to], &x[..n]) {
-        return same;
-    }
-    laying::lay(numbers, from, &x[..n]);
-    false
+    let old = &mut numbers[books::range_of(counts, k as usize)];
+    let new = &x[..old.len()];
+    let same = *old == *new;
+    old.copy_from_slice(new);
+    same
 }

@@ -1,7 +1,9 @@
 -- Where the texts stand: block counts added, and that the texts lie one after the other. Assumes nothing.
 use mathlib.Core.Path.{◌≡◌, refl, sym, ap, ◌∙◌, subst}
 use mathlib.Core.List.{List, [], ◌∷◌}
-use Prim.Native.Nat.{ℕ, zero, suc, ◌+◌, ◌-◌, ◌*◌, ◌≤◌, ◌<◌}
+use Prim.Native.Nat.{ℕ, zero, suc, ◌+◌, ◌-◌, ◌*◌, ◌^◌, ◌≤◌, ◌<◌}
+use Rattle.std.specs.Prelude.{sum}
+use Rattle.std.proofs.lemmas.List.Sums.{sum_by_from}
 use native.Mathlib.Numerals.{add-one}
 use native.Mathlib.Omega.{arith}
 use lib.ListN.{length, get_or, take, drop, length-drop, take-append-drop}
@@ -50,6 +52,15 @@ sum_small [] zero a = omega arith
 sum_small [] (suc i) a = omega arith
 sum_small (c ∷ cs) zero a = omega arith
 sum_small (c ∷ cs) (suc i) (more r a) = let h = sum_small cs i a in let g = r.few in omega arith
+
+-- std's sum is the same, and the first few right counts' fits
+pub sum_is : (cs : List ℕ) → sum cs ≡ sum_of cs
+unfolding sum_of
+sum_is [] = refl
+sum_is (c ∷ cs) = let e = sum_is cs in let f = sum_by_from (λ (n : ℕ). n) (0 + c) cs in omega arith
+
+pub sum_fits : (cs : List ℕ) (i : ℕ) → All RightCount cs → i ≤ 8 → sum (take i cs) < 2 ^ 64
+sum_fits cs i a h = let e = sum_is (take i cs) in let b = sum_small cs i a in omega arith
 
 -- ---- the texts
 

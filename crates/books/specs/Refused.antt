@@ -1,9 +1,9 @@
 -- Document 01, "Numbers given back", and document 02, order 3: for a book 6; then those of the texts' blocks, text by
 -- text; 7 and 12 rule by rule; 4.
-use Rattle.std.specs.Prelude.{List, [], ◌∷◌, ℕ, ◌+◌, ◌≤◌, ◌<◌, length}
+use Rattle.std.specs.Prelude.{List, [], ◌∷◌, ℕ, ◌+◌, ◌≤◌, ◌<◌, length, Result}
 use Rattle.answers.specs.Told.{Told, tell}
 use Rattle.answers.specs.Turns.{Turn, FirstDue, in_turn, TurnChecked, need}
-use Rattle.answers.specs.declared.Checked.{Checked}
+use Rattle.answers.specs.declared.Refusal.{Refusal}
 use Rattle.rules.specs.declared.Rule.{Rule}
 use Rattle.rules.specs.Rule.{rule_at, rule_count}
 use Rattle.answers.specs.FirstBad.{FirstRefused, one_by_one}
@@ -74,5 +74,5 @@ abbrev pub of_lent_book : List ℕ → List ℕ → List ℕ → ℕ → Turn
 of_lent_book counts blocks rules work = in_turn (BookAccepted counts blocks rules work) (book_turns counts blocks rules work)
 
 -- What the check of a book answers: accepted, or the one refusal that is due.
-abbrev pub BookChecked : List ℕ → List ℕ → List ℕ → ℕ → Checked → Type 0
+abbrev pub BookChecked : List ℕ → List ℕ → List ℕ → ℕ → Result Unit Refusal → Type 0
 BookChecked counts blocks rules work = TurnChecked (of_lent_book counts blocks rules work)

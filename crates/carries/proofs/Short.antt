@@ -1,7 +1,10 @@
 -- Sets of one word. Assumes nothing.
-use Rattle.std.proofs.Common.{◌≡◌, ℕ, ◌+◌, ◌*◌, ◌/◌, ◌^◌, ◌<◌, ◌≤◌, [], ◌∷◌, sym, ap, ◌∙◌, subst, arith}
+use Rattle.std.proofs.Common.{◌≡◌, ℕ, ◌+◌, ◌*◌, ◌/◌, ◌^◌, ◌<◌, ◌≤◌, [], ◌∷◌, nat_eq, sym, ap, ◌∙◌, subst, arith, eqb-true}
+use borrow.Author.Tests.{eqb-false}
 use lib.Bits.{bit_and, and_block, and_comm, and_zero_l}
-use Rattle.bases.specs.Base.{base_of}
+use Rattle.plain.specs.Tells.{Tells}
+use Rattle.bases.specs.Base.{base_of, Empty}
+use Rattle.bases.proofs.Laws.{empty_zero, none_in_zero}
 use Rattle.sets.specs.declared.Set.{Set}
 use Rattle.sets.specs.Set.{set_of, Exactly}
 use Rattle.sets.proofs.Exact.{exactly_at}
@@ -28,9 +31,8 @@ and_word h w l m =
     ap (bit_and (top * 2 ^ 64 + h.a)) (let z : w ≡ 0 * 2 ^ 64 + w = omega arith in z)
     ∙ and_block 64 top 0 h.a w l m ∙ ap (λ (n : ℕ). n * 2 ^ 64 + bit_and h.a w) none ∙ (let z : (x : ℕ) → 0 * 2 ^ 64 + x ≡ x = λ x. omega arith in z (bit_and h.a w))
 
-pub short_falls : (free h : Set) (s : ℕ) {g r t : ℕ} → set_of free ≡ free.a → set_of h ≡ s / 2 → g ≡ bit_and (set_of h) free.a → FallsFrom free.a g r → t ≡ r
-    → Exactly t (Falls (set_of free) s)
-short_falls free h s {g} {r} same e dg f dt = exactly_at dt (subst (λ (z : ℕ). Exactly r (Falls z s)) (sym same) (f.holds s (near_first free.a s e dg)))
+pub short_falls : (s : ℕ) {free h w g r t : ℕ} → free ≡ w → h ≡ s / 2 → g ≡ bit_and h w → FallsFrom w g r → t ≡ r → Exactly t (Falls free s)
+short_falls s {w = w} {r = r} same e dg f dt = exactly_at dt (subst (λ (z : ℕ). Exactly r (Falls z s)) (sym same) (f.holds s (near_first w s e dg)))
 
 -- a set with a number in a later word is no word
 no_word : (m a : ℕ) → (m ≡ 0 → ⊥) → 2 ^ 64 ≤ m * 2 ^ 64 + a
@@ -45,3 +47,7 @@ long_set s h = no_word (base_of (s.b ∷ (s.c ∷ (s.d ∷ [])))) s.a (λ z.
     let p = both_zero (base_of (s.c ∷ (s.d ∷ []))) s.b z in
     let q = both_zero (base_of (s.d ∷ [])) s.c p.0 in
     h p.1 q.1 (both_zero 0 s.d q.0).1)
+
+-- a test of a word tells whether it has no number
+pub tells_zero : (w : ℕ) → Tells (nat_eq w 0) (Empty w)
+tells_zero w = record { so = λ e. subst Empty (sym (eqb-true _ _ e)) none_in_zero; not_so = λ e p. eqb-false _ _ e (empty_zero _ p) }

@@ -1,8 +1,9 @@
 -- Numbers above and below those of a set, with no gap between.
-use Rattle.std.specs.Prelude.{ℕ, ◌+◌, ◌^◌, ◌<◌, ◌≤◌, List}
+use Rattle.std.specs.Prelude.{ℕ, ◌+◌, ◌^◌, ◌<◌, ◌≤◌, List, length}
 use Rattle.bases.specs.Base.{Holds}
+use Rattle.sets.specs.declared.Set.{Set}
 use Rattle.sets.specs.Set.{Exactly}
-use Rattle.rows.specs.Row.{row_in, row_count}
+use Rattle.rows.specs.Row.{row_in}
 
 -- from p up to q, q left out, z holds all
 abbrev pub HeldThrough : ℕ → ℕ → ℕ → Type 0
@@ -41,7 +42,7 @@ NoFarther z d = (p q : ℕ) → p < q → HeldThrough z p q → q ≤ p + d
 
 -- row l has those from which z goes on for 2 ^ l numbers, up to a length that none goes beyond; where z is one word
 -- there may be no row
-pub record Spans (z : ℕ) (rows : List ℕ) : Type 0 where
-  pub few : row_count rows ≤ 8
-  pub each : (l : ℕ) → l < row_count rows → Exactly (row_in rows l) (Goes z (2 ^ l))
-  pub far : 2 ^ 64 ≤ z → NoFarther z (2 ^ row_count rows)
+pub record Spans (z : ℕ) (rows : List Set) : Type 0 where
+  pub few : length rows ≤ 8
+  pub each : (l : ℕ) → l < length rows → Exactly (row_in rows l) (Goes z (2 ^ l))
+  pub far : 2 ^ 64 ≤ z → NoFarther z (2 ^ length rows)

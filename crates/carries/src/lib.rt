@@ -3,7 +3,7 @@
 
 #![tactic(auto)]
 
-ghost use Rattle.std.specs.Prelude.{◌≡◌, ◌+◌, ◌*◌, ◌/◌, ◌%◌, ◌^◌, ◌<◌, ◌≤◌, true, false, length, take, bit_and, bit_xor};
+ghost use Rattle.std.specs.Prelude.{◌≡◌, ◌+◌, ◌*◌, ◌/◌, ◌%◌, ◌^◌, ◌<◌, ◌≤◌, true, false, length, take, bit_and, bit_xor, MatchOption};
 ghost use Rattle.bases.specs.Base.{Empty, Meets};
 ghost use Rattle.plain.specs.Tells.{Tells};
 ghost use Rattle.sets.specs.Set.{set_of, Exactly};
@@ -11,42 +11,15 @@ ghost use Rattle.carries.specs.Climb.{Climbs, Falls, FallsFrom, Spans};
 
 use sets::Set;
 
-// A word of a sum, and what it carries on.
-#[derive(Clone, Copy)]
-struct Added {
-    word: u64,
-    carry: u64,
-}
-
-fn sum(a: u64, b: u64, carry: u64) -> Added
-    requires { carry < 2 }
-    ensures { (result.word + result.carry * 2 ^ 64 ≡ a + b + carry) × (result.carry < 2) }
-{
-    let s = std::num::wrapping_add_u64(a, b);
-    let t = std::num::wrapping_add_u64(s, carry);
-    if s < a {
-        return Added { word: t, carry: 1 };
-    }
-    if t < s {
-        return Added { word: t, carry: 1 };
-    }
-    Added { word: t, carry: 0 }
-}
-
 // The sum of two sets as numbers; what goes past 255 is lost.
 fn plus(s: Set, t: Set) -> Set
     ensures { set_of result ≡ (set_of s + set_of t) % 2 ^ 256 }
 {
-    let a = sum(s.a, t.a, 0);
-    let b = sum(s.b, t.b, a.carry);
-    let c = sum(s.c, t.c, b.carry);
-    let d = sum(s.d, t.d, c.carry);
-    Set {
-        a: a.word,
-        b: b.word,
-        c: c.word,
-        d: d.word,
-    }
+    let (a, over) = s.a.carrying_add(t.a, false);
+    let (b, over) = s.b.carrying_add(t.b, over);
+    let (c, over) = s.c.carrying_add(t.c, over);
+    let (d, _) = s.d.carrying_add(t.d, over);
+    Set { a, b, c, d }
 }
 
 // The numbers of one of the two and not of both.
@@ -73,10 +46,10 @@ fn climb_wide(free: Set, s: Set) -> Set
 pub fn climb(free: Set, s: Set) -> Set
     ensures { Exactly (set_of result) (λ q. (q < 256) × Climbs (set_of free) (set_of s) q) }
 {
-    if is_word(free) {
-        return climb_wide(word_set(free.a), s);
+    match as_word(free) {
+        Some(w) => climb_wide(word_set(w), s),
+        None => climb_wide(free, s),
     }
-    climb_wide(free, s)
 }
 
 // Each number 64 down; those below are lost.
@@ -113,52 +86,41 @@ fn lower(s: Set, by: usize) -> Set
     ensures { set_of result ≡ set_of s / 2 ^ by }
 {
     let mut r = s;
-    let mut k = by;
-    while 64 <= k {
+    for _ in 0..by / 64 {
         r = word_down(r);
-        k -= 64;
     }
-    bits_down(r, k)
+    bits_down(r, by % 64)
 }
 
-// Row l has the numbers from which those of `free` go on for 2 ^ l numbers without a gap; gives how many words they
-// are. One word needs none.
-pub fn spans(free: Set, rows: &mut [u64]) -> usize
-    requires { 32 ≤ length rows.old }
+// Row l has the numbers from which those of `free` go on for 2 ^ l numbers without a gap; gives how many rows they are.
+// One word needs none.
+pub fn spans(free: Set, rows: &mut [Set]) -> usize
+    requires { 8 ≤ length rows.old }
     ensures { (result ≤ length rows.new) × Spans (set_of free) (take result rows.new) }
 {
     if is_word(free) {
         return 0;
     }
     let mut p = free;
-    let mut d = 1;
-    let mut l = 0;
-    while d < 256 {
+    for l in 0..8 {
         if sets::is_empty(p) {
-            return l * rows::SIZE;
+            return l;
         }
-        rows::put_row(rows, l, p);
-        p = sets::both(p, lower(p, d));
-        d += d;
-        l += 1;
+        rows[l] = p;
+        p = sets::both(p, lower(p, 1 << l));
     }
-    l * rows::SIZE
+    8
 }
 
 // All numbers from which those of `free` lead up without a gap to a number of a set, of which g has those that lie one
 // below.
-fn fall_wide(free: Set, spans: &[u64], g: Set) -> Set
+fn fall_wide(free: Set, spans: &[Set], g: Set) -> Set
     requires { (2 ^ 64 ≤ set_of free) × Spans (set_of free) spans.now }
     ensures { FallsFrom (set_of free) (set_of g) (set_of result) }
 {
-    let n = spans.len() / rows::SIZE;
     let mut r = g;
-    let mut d = 1;
-    let mut l = 0;
-    while l < n {
-        r = sets::either(r, sets::both(rows::row_at(spans, l), lower(r, d)));
-        d += d;
-        l += 1;
+    for (l, row) in spans.iter().enumerate() {
+        r = sets::either(r, sets::both(*row, lower(r, 1 << l)));
     }
     r
 }
@@ -169,28 +131,27 @@ fn fall_word(free: u64, g: u64) -> u64
 {
     let mut r = g;
     let mut p = free;
-    let mut d: usize = 1;
-    while d < 64 {
+    for l in 0..6usize {
         if p == 0 {
             return r;
         }
-        r = r | p & r >> d;
-        p = p & p >> d;
-        d += d;
+        let d = 1usize << l;
+        r |= p & r >> d;
+        p &= p >> d;
     }
     r
 }
 
 // All numbers from which the numbers of `free` lead up without a gap to one of s.
-pub fn fall(free: Set, spans: &[u64], s: Set) -> Set
+pub fn fall(free: Set, spans: &[Set], s: Set) -> Set
     requires { Spans (set_of free) spans.now }
     ensures { Exactly (set_of result) (Falls (set_of free) (set_of s)) }
 {
     let h = sets::down(s);
-    if is_word(free) {
-        return word_set(fall_word(free.a, in_word(h, free.a)));
+    match as_word(free) {
+        Some(w) => word_set(fall_word(w, in_word(h, w))),
+        None => fall_wide(free, spans, sets::both(h, free)),
     }
-    fall_wide(free, spans, sets::both(h, free))
 }
 
 // The set of a word's numbers.
@@ -209,14 +170,14 @@ pub fn word_set(w: u64) -> Set
 pub fn is_word(s: Set) -> bool
     ensures { (result ≡ true → set_of s ≡ s.a) × (result ≡ false → 2 ^ 64 ≤ set_of s) }
 {
-    if s.b == 0 {
-        if s.c == 0 {
-            if s.d == 0 {
-                return true;
-            }
-        }
-    }
-    false
+    s.b == 0 && s.c == 0 && s.d == 0
+}
+
+// The word that has all its numbers, where one does.
+pub fn as_word(s: Set) -> Option<u64>
+    ensures { MatchOption result (2 ^ 64 ≤ set_of s) (λ w. set_of s ≡ w) }
+{
+    if is_word(s) { Some(s.a) } else { None }
 }
 
 // What a set shares with a word.
@@ -226,18 +187,11 @@ pub fn in_word(s: Set, w: u64) -> u64
     s.a & w
 }
 
-// Whether a word has no number.
-pub fn is_zero(w: u64) -> bool
-    ensures { Tells result (Empty w) }
-{
-    w == 0
-}
-
 // Whether a set shares a number with a word.
 pub fn meets_word(s: Set, w: u64) -> bool
     ensures { Tells result (Meets (set_of s) w) }
 {
-    !is_zero(in_word(s, w))
+    in_word(s, w) != 0
 }
 
 // `climb` in one word.
@@ -245,7 +199,7 @@ pub fn climb_word(free: u64, s: u64) -> u64
     ensures { Exactly result (λ q. (q < 64) × Climbs free s q) }
 {
     let x = s & free;
-    std::num::wrapping_add_u64(x, free) ^ x ^ free
+    x.wrapping_add(free) ^ x ^ free
 }
 
 // `fall` in one word.

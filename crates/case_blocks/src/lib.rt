@@ -13,36 +13,30 @@ pub fn widen(x: &[u64], wide: &mut [u64])
     requires { length x.now ≤ length wide.old }
     ensures { WidenedTo x.now (block_count x.now) wide.old wide.new }
 {
-    let n = x.len() / shapes::SIZE;
-    let mut i = 0;
-    while i < n {
+    for i in 0..x.len() / shapes::SIZE {
         let b = shapes::block_at(x, i);
         let w = Block {
             base: letters::both_cases(b.base),
-            lower: b.lower,
-            upper: b.upper,
+            ..b
         };
         shapes::put_block(wide, i, w);
-        i += 1;
     }
 }
+
+// `widen` and `cut` share but the walk over the blocks, which is one line of each: a function of both is no plainer.
 
 // Cuts the base of each block of an output with that of the shape; the output's counts stay.
 pub fn cut(x: &[u64], out: &mut [u64])
     requires { length x.now ≤ length out.old }
     ensures { CutTo x.now (block_count x.now) out.old out.new }
 {
-    let n = x.len() / shapes::SIZE;
-    let mut i = 0;
-    while i < n {
+    for i in 0..x.len() / shapes::SIZE {
         let b = shapes::block_at(x, i);
         let j = shapes::block_at(out, i);
         let h = Block {
             base: sets::both(b.base, j.base),
-            lower: j.lower,
-            upper: j.upper,
+            ..j
         };
         shapes::put_block(out, i, h);
-        i += 1;
     }
 }

@@ -8,13 +8,14 @@ use lib.ListN.{length, take}
 use Rattle.bases.specs.Base.{Meets}
 use Rattle.plain.proofs.Plain.{lt_or_le}
 use Rattle.sets.specs.Set.{Exactly}
+use Rattle.sets.specs.declared.Set.{Set}
 use Rattle.sets.proofs.Exact.{exactly_as, exactly_at}
 use Rattle.shapes.specs.Shape.{Block, total, block_count}
 use Rattle.shapes.specs.Lent.{shape_of, block_at}
 use Rattle.walks.specs.Walk.{slot_at}
 use Rattle.pads.specs.Pad.{PadPath}
 use Rattle.pads.proofs.Paths.{path_pad, pad_path, slot_roomy}
-use Rattle.rows.specs.Row.{row_in, PutRow, table_size, row_count}
+use Rattle.rows.specs.Row.{row_in, PutRow, table_size}
 use Rattle.rows.specs.Steps.{Leads}
 use Rattle.row_lay.proofs.Laid.{total_all, total_more, total_zero, upper_within}
 use Rattle.row_paths.specs.Rows.{Zones, LeadsOn, end, taken}
@@ -34,14 +35,14 @@ RowIs x y i r = Exactly r (λ j. PadPath (slot_at (shape_of x)) (slot_at (shape_
 
 -- The blocks of x from block i on, which starts at p: where their bases meet those of y, and the rows from p on, of
 -- which s is the first.
-pub record PassFrom (x y : List ℕ) (i p : ℕ) (mines rows : List ℕ) (s : ℕ) : Type 0 where
+pub record PassFrom (x y : List ℕ) (i p : ℕ) (mines rows : List Set) (s : ℕ) : Type 0 where
   place : p ≡ total (take i (shape_of x))
   mine : (h : ℕ) → i ≤ h → h < block_count x → MineIs x y h (row_in mines h)
   row : (h : ℕ) → p ≤ h → h ≤ total (shape_of x) → RowIs x y h (row_in rows h)
   next : RowIs x y p s
 
 -- where the block before starts
-pub pass_place : (x : List ℕ) {y mines rows : List ℕ} {n p s : ℕ} (i : ℕ) → i < block_count x → n ≡ i + 1 → PassFrom x y n p mines rows s
+pub pass_place : (x : List ℕ) {y : List ℕ} {mines rows : List Set} {n p s : ℕ} (i : ℕ) → i < block_count x → n ≡ i + 1 → PassFrom x y n p mines rows s
     → p ≡ total (take i (shape_of x)) + (block_at x i).upper
 pass_place x i l d t = t.place ∙ ap (λ (z : ℕ). total (take z (shape_of x))) d ∙ total_more x i l
 
@@ -56,7 +57,7 @@ row_last x y z v ro = left_row z (exactly_as (λ j h. end refl h) leaves v) ro
 
 module _ {x y : List ℕ} {Z E : ℕ → ℕ} {k : ℕ} (z : Zones (slot_at (shape_of y)) Z E k) where
   -- the last row, before all blocks
-  pub pass_last : (mines : List ℕ) {rows rows' : List ℕ} {n p m seeds s : ℕ} → n ≡ block_count x → p ≡ total (shape_of x) → m ≡ total (shape_of y)
+  pub pass_last : (mines : List Set) {rows rows' : List Set} {n p m seeds s : ℕ} → n ≡ block_count x → p ≡ total (shape_of x) → m ≡ total (shape_of y)
       → Exactly seeds (λ e. e ≡ m) → Exactly s (Leads Z E k seeds) → PutRow rows p s rows' → PassFrom x y n p mines rows' s
   pass_last mines {rows' = rows'} {n} {p} {m} {seeds} {s} d e f v ro u =
       let last : RowIs x y p s = subst (λ (q : ℕ). RowIs x y q s) (sym e)
@@ -69,7 +70,7 @@ module _ {x y : List ℕ} {Z E : ℕ → ℕ} {k : ℕ} (z : Zones (slot_at (sha
       }
 
   -- one more block, from p to q
-  pub pass_more : {i n p q mine s r : ℕ} {b : Block} {mines mines' rows rows' : List ℕ} → n ≡ i + 1 → i < block_count x → b ≡ block_at x i → q ≡ p + b.upper
+  pub pass_more : {i n p q mine s r : ℕ} {b : Block} {mines mines' rows rows' : List Set} → n ≡ i + 1 → i < block_count x → b ≡ block_at x i → q ≡ p + b.upper
       → Exactly mine (λ j. Meets b.base (slot_at (shape_of y) j).base) → PassFrom x y n q mines rows s → PutRow mines i mine mines'
       → WheneverRoomy Z E k mine p b (BlockKept s rows' p b r) → RowsAfter (p + b.upper) rows rows' → PassFrom x y i p mines' rows' r
   pass_more {i} {n} {p} {q} {mine} {s} {r} {b} {mines} {mines'} {rows} {rows'} d l be qe m t u f w = record {
@@ -102,7 +103,7 @@ module _ {x y : List ℕ} {Z E : ℕ → ℕ} {k : ℕ} (z : Zones (slot_at (sha
           (subst (λ (v : ℕ). RowIs x y v s) qe t.next)
 
 -- the first block reached, from position 0 on
-pub pass_all : {x y mines rows : List ℕ} {i p s : ℕ} → i ≡ 0 → block_count x ≤ row_count mines → length rows ≡ table_size → PassFrom x y i p mines rows s → EndRows x y mines rows
+pub pass_all : {x y : List ℕ} {mines rows : List Set} {i p s : ℕ} → i ≡ 0 → block_count x ≤ length mines → length rows ≡ table_size → PassFrom x y i p mines rows s → EndRows x y mines rows
 pass_all {x} {y} {i = i} {p = p} e g w t =
     let at : p ≡ 0 = t.place ∙ ap (λ (j : ℕ). total (take j (shape_of x))) e ∙ total_zero (shape_of x) in
     record { mine = λ h l. t.mine h (omega arith) l; row = λ h l. exactly_as (λ j. pad_path (slot_roomy (shape_of x)) (slot_roomy (shape_of y))) (λ j. path_pad (slot_roomy (shape_of x)) (slot_roomy (shape_of y))) (t.row h (omega arith) l); mines_long = g; rows_long = w }

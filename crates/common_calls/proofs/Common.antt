@@ -4,16 +4,16 @@ use mathlib.Core.Path.{◌≡◌, refl, sym, ap, ◌∙◌}
 use mathlib.Core.List.{List, ◌++◌}
 use Prim.Native.Nat.{ℕ}
 use lib.ListN.{length, drop}
+use Rattle.std.specs.Prelude.{Option, Some, None, Result, Ok, Err}
 use Rattle.answers.specs.Told.{Told}
-use Rattle.answers.specs.declared.Shown.{Shown}
-use Rattle.answers.specs.declared.Shown.TheVariants.{Text, None as no_text, Refused}
+use Rattle.answers.specs.declared.Refusal.{Refusal}
 use Rattle.answers.proofs.Told.{told_one}
 use Rattle.answers.proofs.Turns.{OneOf, need_one, in_turn_one}
 use Rattle.shapes.specs.Shape.{Block}
 use Rattle.texts.proofs.Order.{at_most_antisym}
 use Rattle.pairs.specs.Pair.{PairAccepted}
 use Rattle.pairs.proofs.Pair.{of_pair_lem}
-use Rattle.common_texts.specs.Earliest.{Earliest, NoCommon, TextShown, ShowAnswer}
+use Rattle.common_texts.specs.Earliest.{Earliest, NoCommon, TextShown}
 use Rattle.common_calls.specs.Common.{ShowRoom, show_turns, ShowRefused, of_showing, ShowAccepts, ShowPromise}
 
 -- ---- the refusals
@@ -51,20 +51,15 @@ module _ (xs ys work out : List ℕ) where
   not_refused : {t : Told} {work' : List ℕ} → ShowRefused xs ys (length work) (length out) t → ShowAccepts xs ys work out work' → ⊥
   not_refused p q = show_refused_not p q.shapes q.room
 
-  pub shown : (work' out' : List ℕ) (r : Shown) → ShowAccepts xs ys work out work' → ShowAnswer xs ys out out' r → ShowPromise xs ys work out work' out' r
-  shown work' out' (Text n) a p = (a, p)
-  shown work' out' no_text a p = (a, p)
-  shown work' out' (Refused r) a p = absurd p
-
-  pub common_one : (work' out' work'' out'' : List ℕ) (r s : Shown) → ShowPromise xs ys work out work' out' r → ShowPromise xs ys work out work'' out'' s
+  pub common_one : (work' out' work'' out'' : List ℕ) (r s : Result (Option ℕ) Refusal) → ShowPromise xs ys work out work' out' r → ShowPromise xs ys work out work'' out'' s
       → (r ≡ s) × (work' ≡ work'') × (out' ≡ out'')
-  common_one work' out' work'' out'' (Text n) (Text m) p q = let t = text_one p.1 q.1 in (ap Text t.0, same_work p.0 q.0, t.1)
-  common_one work' out' work'' out'' (Text n) no_text p q = absurd (earliest_or_none p.1.earliest q.1.nothing)
-  common_one work' out' work'' out'' (Text n) (Refused s) p q = absurd (not_refused q.0 p.0)
-  common_one work' out' work'' out'' no_text (Text m) p q = absurd (earliest_or_none q.1.earliest p.1.nothing)
-  common_one work' out' work'' out'' no_text no_text p q = (refl, same_work p.0 q.0, p.1.kept ∙ sym q.1.kept)
-  common_one work' out' work'' out'' no_text (Refused s) p q = absurd (not_refused q.0 p.0)
-  common_one work' out' work'' out'' (Refused r) (Text m) p q = absurd (not_refused p.0 q.0)
-  common_one work' out' work'' out'' (Refused r) no_text p q = absurd (not_refused p.0 q.0)
-  common_one work' out' work'' out'' (Refused r) (Refused s) p q =
-      (ap Refused (told_one r s (show_refused_one p.0 q.0)), p.1 ∙ sym q.1, p.2 ∙ sym q.2)
+  common_one work' out' work'' out'' (Ok (Some n)) (Ok (Some m)) p q = let t = text_one p.1 q.1 in (ap (λ (k : ℕ). Ok (Some k)) t.0, same_work p.0 q.0, t.1)
+  common_one work' out' work'' out'' (Ok (Some n)) (Ok None) p q = absurd (earliest_or_none p.1.earliest q.1.nothing)
+  common_one work' out' work'' out'' (Ok (Some n)) (Err s) p q = absurd (not_refused q.0 p.0)
+  common_one work' out' work'' out'' (Ok None) (Ok (Some m)) p q = absurd (earliest_or_none q.1.earliest p.1.nothing)
+  common_one work' out' work'' out'' (Ok None) (Ok None) p q = (refl, same_work p.0 q.0, p.1.kept ∙ sym q.1.kept)
+  common_one work' out' work'' out'' (Ok None) (Err s) p q = absurd (not_refused q.0 p.0)
+  common_one work' out' work'' out'' (Err r) (Ok (Some m)) p q = absurd (not_refused p.0 q.0)
+  common_one work' out' work'' out'' (Err r) (Ok None) p q = absurd (not_refused p.0 q.0)
+  common_one work' out' work'' out'' (Err r) (Err s) p q =
+      (ap Err (told_one r s (show_refused_one p.0 q.0)), p.1 ∙ sym q.1, p.2 ∙ sym q.2)

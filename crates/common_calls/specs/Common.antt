@@ -1,11 +1,9 @@
 -- Document 02, order 2: what the call for the earliest common text promises. Lent: two shapes xs and ys, work, one
 -- output; with ' they are as handed back.
-use Rattle.std.specs.Prelude.{◌≡◌, List, [], ◌∷◌, ℕ, ◌≤◌, length}
+use Rattle.std.specs.Prelude.{◌≡◌, List, [], ◌∷◌, ℕ, ◌≤◌, length, Option, Some, None, Result, Ok, Err}
 use Rattle.answers.specs.Told.{Told, tell, told}
 use Rattle.answers.specs.Turns.{Turn, FirstDue, in_turn, TurnChecked, need}
-use Rattle.answers.specs.declared.Checked.{Checked}
-use Rattle.answers.specs.declared.Shown.{Shown}
-use Rattle.answers.specs.declared.Shown.TheVariants.{Text, None as no_text, Refused}
+use Rattle.answers.specs.declared.Refusal.{Refusal}
 use Rattle.pairs.specs.Pair.{PairAccepted, of_pair}
 use Rattle.pairs.specs.Narrow.{Cleared}
 use Rattle.common_texts.specs.Earliest.{TextShown, NothingShown}
@@ -25,7 +23,7 @@ ShowRefused xs ys w a = FirstDue (show_turns xs ys w a)
 abbrev pub of_showing : List ℕ → List ℕ → ℕ → ℕ → Turn
 of_showing xs ys w a = in_turn (PairAccepted xs ys × ShowRoom w a) (show_turns xs ys w a)
 
-abbrev pub ShowChecked : List ℕ → List ℕ → ℕ → ℕ → Checked → Type 0
+abbrev pub ShowChecked : List ℕ → List ℕ → ℕ → ℕ → Result Unit Refusal → Type 0
 ShowChecked xs ys w a = TurnChecked (of_showing xs ys w a)
 
 pub record ShowAccepts (xs ys work out work' : List ℕ) : Type 0 where
@@ -33,7 +31,7 @@ pub record ShowAccepts (xs ys work out work' : List ℕ) : Type 0 where
   pub room : ShowRoom (length work) (length out)
   pub work_cleared : Cleared work work'
 
-abbrev pub ShowPromise : List ℕ → List ℕ → List ℕ → List ℕ → List ℕ → List ℕ → Shown → Type 0
-ShowPromise xs ys work out work' out' (Text n) = ShowAccepts xs ys work out work' × TextShown xs ys out out' n
-ShowPromise xs ys work out work' out' no_text = ShowAccepts xs ys work out work' × NothingShown xs ys out out'
-ShowPromise xs ys work out work' out' (Refused r) = ShowRefused xs ys (length work) (length out) (told r) × (work' ≡ work) × (out' ≡ out)
+abbrev pub ShowPromise : List ℕ → List ℕ → List ℕ → List ℕ → List ℕ → List ℕ → Result (Option ℕ) Refusal → Type 0
+ShowPromise xs ys work out work' out' (Ok (Some n)) = ShowAccepts xs ys work out work' × TextShown xs ys out out' n
+ShowPromise xs ys work out work' out' (Ok None) = ShowAccepts xs ys work out work' × NothingShown xs ys out out'
+ShowPromise xs ys work out work' out' (Err r) = ShowRefused xs ys (length work) (length out) (told r) × (work' ≡ work) × (out' ≡ out)

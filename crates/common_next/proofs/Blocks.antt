@@ -11,33 +11,31 @@ use Rattle.bases.proofs.Laws.{none_in_zero}
 use Rattle.plain.proofs.Plain.{lt_or_le}
 use Rattle.bases.proofs.Sets.{both}
 use Rattle.sets.specs.Set.{set_of, Exactly}
+use Rattle.sets.specs.declared.Set.{Set}
 use Rattle.sets.proofs.Exact.{exactly_as, both_exactly, held_under}
 use Rattle.shapes.specs.Shape.{Block, no_block, total, block_count}
 use Rattle.shapes.specs.Lent.{shape_of, block_at}
 use Rattle.shapes.proofs.Lent.{shape_length, shape_at}
 use Rattle.walks.specs.Walk.{slot_at}
-use Rattle.rows.specs.Row.{row_in}
+use Rattle.rows.specs.Row.{row_in, slot_in}
+use Rattle.rows.specs.declared.LaidBlock.{LaidBlock}
 use Rattle.rows.specs.Steps.{MeetsOne}
 use Rattle.row_lay.proofs.Laid.{total_zero, total_more, total_all, upper_within}
 use Rattle.row_paths.specs.Laid.{Laid}
 use Rattle.row_paths.proofs.Lent.{slot_rows_at}
 use Rattle.row_paths.proofs.Shapes.{held_within}
 use Rattle.common_back.specs.Back.{EndRows}
-use Rattle.common_weighs.specs.declared.Weighed.{Weighed}
-use Rattle.common_weighs.specs.Next.{BothTake, none, Slotted}
+use Rattle.common_weighs.specs.declared.Chosen.{Chosen as Found}
+use Rattle.common_weighs.specs.Next.{BothTake, none}
 use Rattle.common_weighs.specs.Code.{NearHas, ChosenBy, Weighing, WeighedAll, Enough}
 use Rattle.common_weighs.proofs.Weighing.{least_more, may_as, settle}
-
--- those of P in a row
-pub members_of : (P : ℕ) {left row r : ℕ} → row ≡ r → left ≡ bit_and P row → Exactly left (λ i. Holds P i × Holds r i)
-members_of P {left} e d = subst (λ (q : ℕ). Exactly left (λ i. Holds P i × Holds q i)) e (both_exactly P _ d)
 
 -- all characters there are
 pub near_all : {y : List ℕ} {Q near : ℕ} → Exactly near (λ c. c < 256) → NearHas y Q near
 near_all x = record { all = λ j c b q h. x.has c b }
 
 -- every character at the positions Q
-pub near_of : {y z e s : List ℕ} → Laid y z e s → {k : ℕ} → k ≡ block_count y → (Q : ℕ) {near : ℕ} → Exactly near (MeetsOne (row_in s) (λ i. (block_at y i).base) k Q) → NearHas y Q near
+pub near_of : {y : List ℕ} {t : List LaidBlock} → Laid y t → {k : ℕ} → k ≡ block_count y → (Q : ℕ) {near : ℕ} → Exactly near (MeetsOne (slot_in t) (λ i. (block_at y i).base) k Q) → NearHas y Q near
 near_of {y} l d Q x = record {
   all = λ j c b q h.
       let r = slot_rows_at y d l.lay in
@@ -47,24 +45,24 @@ near_of {y} l d Q x = record {
 
 -- ---- the slots of block a
 
-module _ {x s : List ℕ} (l : Slotted x s) {a : ℕ} (h : a < block_count x) where
+module _ {x : List ℕ} {t : List LaidBlock} (l : Laid x t) {a : ℕ} (h : a < block_count x) where
   -- a position of its row is one of its slots
-  slot : (i : ℕ) → Holds (row_in s a) i → (total (take a (shape_of x)) ≤ i) × (i < total (take (a + 1) (shape_of x))) × ((slot_at (shape_of x) i).base ≡ (block_at x a).base)
+  slot : (i : ℕ) → Holds (slot_in t a) i → (total (take a (shape_of x)) ≤ i) × (i < total (take (a + 1) (shape_of x))) × ((slot_at (shape_of x) i).base ≡ (block_at x a).base)
   slot i g =
       let n = shape_length x in
-      let w = (l.laid.lay.slot a (omega arith)).so i g in
+      let w = (l.lay.slot a (omega arith)).so i g in
       let low = w.0 in
       let high = w.1 in
       let u = ap (λ (b : Block). b.upper) (shape_at x a no_block h) in
       let m = total_more x a h in
-      (low, omega arith, (slot_rows_at x refl l.laid.lay).base a i h g)
+      (low, omega arith, (slot_rows_at x refl l.lay).base a i h g)
 
-  in_slot : (i : ℕ) → total (take a (shape_of x)) ≤ i → i < total (take (a + 1) (shape_of x)) → Holds (row_in s a) i
+  in_slot : (i : ℕ) → total (take a (shape_of x)) ≤ i → i < total (take (a + 1) (shape_of x)) → Holds (slot_in t a) i
   in_slot i low high =
       let n = shape_length x in
       let u = ap (λ (b : Block). b.upper) (shape_at x a no_block h) in
       let m = total_more x a h in
-      (l.laid.lay.slot a (omega arith)).has i (low, omega arith)
+      (l.lay.slot a (omega arith)).has i (low, omega arith)
 
 module _ (x y : List ℕ) (P Q : ℕ) where
   abbrev Chosen : (ℕ → Type 0) → ℕ → ℕ → Type 0
@@ -75,8 +73,8 @@ module _ (x y : List ℕ) (P Q : ℕ) where
 
   -- ---- one block
 
-  module _ {s : List ℕ} (l : Slotted x s) {a : ℕ} (h : a < block_count x) where
-    pub block_begun : {left code kept seen : ℕ} → Exactly left (λ i. Holds P i × Holds (row_in s a) i) → seen ≡ 0 → Chosen (λ i. Holds P i × (i < total (take a (shape_of x)))) code kept
+  module _ {t : List LaidBlock} (l : Laid x t) {a : ℕ} (h : a < block_count x) where
+    pub block_begun : {left code kept seen : ℕ} → Exactly left (λ i. Holds P i × Holds (slot_in t a) i) → seen ≡ 0 → Chosen (λ i. Holds P i × (i < total (take a (shape_of x)))) code kept
         → Weigh (block_at x a).base (total (take (a + 1) (shape_of x))) left code kept seen
     unfolding Empty
     block_begun {left} {code} {kept} {seen} e z f = record {
@@ -93,9 +91,9 @@ module _ (x y : List ℕ) (P Q : ℕ) where
         narrower i d = ⊎_elim (λ g. (d.0, g)) (λ g. absurd (d.2 (e.has i (d.0, in_slot l h i g d.1)))) (lt_or_le i (total (take a (shape_of x))))
 
     -- none of P is in it
-    pub block_none : {row code kept : ℕ} → row ≡ row_in s a → (Meets P row → ⊥) → Chosen (λ i. Holds P i × (i < total (take a (shape_of x)))) code kept
+    pub block_none : {code kept : ℕ} → (Meets P (slot_in t a) → ⊥) → Chosen (λ i. Holds P i × (i < total (take a (shape_of x)))) code kept
         → Chosen (λ i. Holds P i × (i < total (take (a + 1) (shape_of x)))) code kept
-    block_none {row} e n f = record {
+    block_none n f = record {
       least = least_more (λ i d. let m = total_more x a h in let g = d.1 in (d.0, omega arith)) (λ c m. inl (may_as narrower m)) f.least;
       kept_all = f.kept_all;
     }
@@ -103,7 +101,7 @@ module _ (x y : List ℕ) (P Q : ℕ) where
         narrower : (i : ℕ) → Holds P i × (i < total (take (a + 1) (shape_of x))) → Holds P i × (i < total (take a (shape_of x)))
         narrower i d = ⊎_elim
             (λ g. (d.0, g))
-            (λ g. absurd (n (record { shared = i; first = d.0; second = subst (λ (v : ℕ). Holds v i) (sym e) (in_slot l h i g d.1) })))
+            (λ g. absurd (n (record { shared = i; first = d.0; second = in_slot l h i g d.1 })))
             (lt_or_le i (total (take a (shape_of x))))
 
   -- ---- when its positions are weighed as far as need be
@@ -133,36 +131,33 @@ module _ (x y : List ℕ) (P Q : ℕ) where
 
   -- ---- from one block to the next
 
-  found_as : {D : ℕ → Type 0} {code kept code' kept' : ℕ} → code' ≡ code → kept' ≡ kept → Chosen D code kept → Chosen D code' kept'
-  found_as {D} {kept = kept} {code'} e k f = subst (Chosen D code') (sym k) (subst (λ (c : ℕ). Chosen D c kept) (sym e) f)
-
-  module _ {s mines rows : List ℕ} (l : Slotted x s) (t : EndRows x y mines rows) {a : ℕ} (h : a < block_count x) {left : ℕ} (at : Exactly left (λ i. Holds P i × Holds (row_in s a) i)) where
+  module _ {t : List LaidBlock} {mines rows : List Set} (l : Laid x t) (ends : EndRows x y mines rows) {a : ℕ} (h : a < block_count x) {left : ℕ} (at : Exactly left (λ i. Holds P i × Holds (slot_in t a) i)) where
     -- its positions are within the shape
     members_within : (i : ℕ) → Holds left i → i < total (shape_of x)
     members_within i g = let w = (slot l h i (at.so i g).1).1 in let m = total_more x a h in let u = upper_within x a h in omega arith
 
     pub members_small : (i : ℕ) → Holds left i → i < 250
-    members_small i g = let w = members_within i g in let b = l.laid.whole.short in omega arith
+    members_small i g = let w = members_within i g in let b = l.whole.short in omega arith
 
-    pub block_found : {near usable least mine beside base : ℕ} (g r : Weighed) {code kept code' kept' : ℕ} → base < 2 ^ codes → NearHas y Q near → base ≡ (block_at x a).base → usable ≡ bit_and base near → Least usable least → least < 256
-        → mine ≡ row_in mines a → beside ≡ bit_and Q mine → g.code ≡ code → set_of g.kept ≡ kept → set_of g.seen ≡ 0 → WeighedAll y rows base least beside left g r → code' ≡ r.code → kept' ≡ set_of r.kept
-        → Chosen (λ i. Holds P i × (i < total (take a (shape_of x)))) code kept → Chosen (λ i. Holds P i × (i < total (take (a + 1) (shape_of x)))) code' kept'
-    block_found {near} {usable} {least} {mine} {beside} {base} g r small n e u f b me be ce ke se w ce' ke' v = found_as ce' ke'
-        (⊎_elim (λ z. all_settled got.weighing z) (λ le. enough_settled got.weighing (subst (λ (q : ℕ). q < 2 ^ codes) e small) n used least f b le) got.enough)
+    pub block_found : {near usable least beside base : ℕ} (g r : Found) → base < 2 ^ codes → NearHas y Q near → base ≡ (block_at x a).base → usable ≡ bit_and base near → Least usable least → least < 256
+        → beside ≡ bit_and Q (row_in mines a) → WeighedAll y rows base least beside left g r
+        → Chosen (λ i. Holds P i × (i < total (take a (shape_of x)))) g.code (set_of g.kept) → Chosen (λ i. Holds P i × (i < total (take (a + 1) (shape_of x)))) r.code (set_of r.kept)
+    block_found {near} {usable} {least} {beside} {base} g r small n e u f b be w v =
+        ⊎_elim (λ z. all_settled got.weighing z) (λ le. enough_settled got.weighing (subst (λ (q : ℕ). q < 2 ^ codes) e small) n used least f b le) got.enough
       where
         used : usable ≡ bit_and (block_at x a).base near
         used = u ∙ ap (λ (q : ℕ). bit_and q near) e
 
         meets : Exactly beside (λ j. Holds Q j × Meets (block_at x a).base (slot_at (shape_of y) j).base)
         meets = exactly_as
-            (λ j m. (m.0, (t.mine a h).so j (subst (λ (q : ℕ). Holds q j) me m.1)))
-            (λ j m. (m.0, subst (λ (q : ℕ). Holds q j) (sym me) ((t.mine a h).has j m.1)))
-            (both_exactly Q mine be)
+            (λ j m. (m.0, (ends.mine a h).so j m.1))
+            (λ j m. (m.0, (ends.mine a h).has j m.1))
+            (both_exactly Q (row_in mines a) be)
 
         got : Enough (slot_at (shape_of x)) (slot_at (shape_of y)) (total (shape_of x)) (total (shape_of y)) P Q (block_at x a).base (total (take (a + 1) (shape_of x))) least r
         got = (subst (λ (q : ℕ). WeighedAll y rows q least beside left g r) e w).holds (slot_at (shape_of x)) (total (shape_of x)) (total (shape_of y)) P Q (total (take (a + 1) (shape_of x))) meets
-            (λ i q. t.row (i + 1) (let w = members_within i q in omega arith))
-            (block_begun l h at se (found_as ce ke v))
+            (λ i q. ends.row (i + 1) (let w = members_within i q in omega arith))
+            (block_begun l h at refl v)
 
   -- ---- all blocks
 

@@ -8,27 +8,27 @@ ghost use Rattle.sets.specs.Set.{set_of, Exactly};
 ghost use Rattle.shapes.specs.Shape.{block_count};
 ghost use Rattle.shapes.specs.Lent.{shape_of};
 ghost use Rattle.walks.specs.Walk.{slot_at};
+ghost use Rattle.row_paths.specs.Laid.{Laid};
 ghost use Rattle.common_back.specs.Back.{EndRows};
-ghost use Rattle.common_weighs.specs.Next.{RunsEnded, After, RunEnds, Slotted};
+ghost use Rattle.common_weighs.specs.Next.{RunsEnded, After, RunEnds};
 ghost use Rattle.common_weighs.specs.Code.{NearHas, ChosenBy, ChosenTo};
 
-use common_weighs::Chosen;
+use common_weighs::{Both, Chosen};
 use row_steps::Runs;
+use rows::LaidBlock;
 use sets::Set;
 
-// Where the text so far leads in one shape, where its last character may stand in it, where its runs may end, and where
-// they then are.
+// Where the text so far leads in one shape, where its last character may stand in it, and where its runs may end.
 #[derive(Clone, Copy)]
 pub struct Front {
     pub row: Set,
     pub takes: Set,
-    pub free: Set,
-    pub stops: Set,
+    pub runs: Runs,
 }
 
 // Where the character may stand: as before if it is the same again.
-fn taking(shape: &[u64], slots: &[u64], takes: Set, again: bool, code: usize) -> Set
-    requires slotted { Slotted shape.now slots.now }
+fn taking(shape: &[u64], layout: &[LaidBlock], takes: Set, again: bool, code: usize) -> Set
+    requires laid { Laid shape.now layout.now }
     requires code_bound { code < 256 }
     requires exactly { again ≡ true → Exactly (set_of takes) (λ q. Holds (slot_at (shape_of shape.now) q).base code) }
     ensures { Exactly (set_of result) (λ q. Holds (slot_at (shape_of shape.now) q).base code) }
@@ -36,126 +36,85 @@ fn taking(shape: &[u64], slots: &[u64], takes: Set, again: bool, code: usize) ->
     if again {
         return takes;
     }
-    row_steps::matching(sets::single(code), shape, slots, shape.len() / shapes::SIZE)
+    row_steps::matching(sets::single(code), shape, layout)
 }
 
 // A row with what the ends of runs lead to from it; nothing more where no run may end.
-fn onward(free: Set, stops: Set, s: Set) -> Set
-    ensures { (x : List ℕ) → RunEnds x (set_of free) (set_of stops) → Exactly (set_of result) (RunsEnded (slot_at (shape_of x)) (set_of s)) }
+fn onward(runs: Runs, s: Set) -> Set
+    ensures { (x : List ℕ) → RunEnds x (set_of runs.free) (set_of runs.stops) → Exactly (set_of result) (RunsEnded (slot_at (shape_of x)) (set_of s)) }
 {
-    if sets::meets(s, free) {
-        return row_steps::close_forth(Runs { free, stops }, s);
+    if sets::meets(s, runs.free) {
+        return row_steps::close_forth(runs, s);
     }
     s
 }
 
 // One shape read one character on.
-pub fn read(shape: &[u64], slots: &[u64], side: Front, again: bool, code: usize) -> Front
-    requires slotted { Slotted shape.now slots.now }
-    requires code_bound { (code < 256) × RunEnds shape.now (set_of side.free) (set_of side.stops) }
+pub fn read(shape: &[u64], layout: &[LaidBlock], side: Front, again: bool, code: usize) -> Front
+    requires laid { Laid shape.now layout.now }
+    requires code_bound { (code < 256) × RunEnds shape.now (set_of side.runs.free) (set_of side.runs.stops) }
     requires exactly { again ≡ true → Exactly (set_of side.takes) (λ q. Holds (slot_at (shape_of shape.now) q).base code) }
     ensures exactly_2 { Exactly (set_of result.takes) (λ q. Holds (slot_at (shape_of shape.now) q).base code) }
     ensures exactly_3 { Exactly (set_of result.row) (After (slot_at (shape_of shape.now)) (set_of side.row) code) }
-    ensures run_ends { RunEnds shape.now (set_of result.free) (set_of result.stops) }
+    ensures run_ends { RunEnds shape.now (set_of result.runs.free) (set_of result.runs.stops) }
 {
-    let row = side.row;
-    let free = side.free;
-    let stops = side.stops;
-    let takes = taking(shape, slots, side.takes, again, code);
-    let taken = sets::up(sets::both(row, takes));
+    let takes = taking(shape, layout, side.takes, again, code);
+    let taken = sets::up(sets::both(side.row, takes));
     Front {
-        row: onward(free, stops, taken),
-        takes: takes,
-        free: free,
-        stops: stops,
+        row: onward(side.runs, taken),
+        takes,
+        ..side
     }
 }
 
 // Block a: its positions are weighed as far as need be; `near` has the characters at the positions `other` of y.
-fn weigh_block(
-    x: &[u64],
-    y: &[u64],
-    slots_x: &[u64],
-    slots_y: &[u64],
-    mines: &[u64],
-    rows: &[u64],
-    a: usize,
-    own: Set,
-    other: Set,
-    near: Set,
-    found: Chosen,
-) -> Chosen
-    requires slotted { Slotted x.now slots_x.now × Slotted y.now slots_y.now }
-    requires end_rows { EndRows x.now y.now mines.now rows.now }
-    requires a_bound { a < block_count x.now }
-    requires near_has { NearHas y.now (set_of other) (set_of near) }
-    requires chosen_to { ChosenTo x.now y.now a (set_of own) (set_of other) found }
-    ensures { ChosenTo x.now y.now (a + 1) (set_of own) (set_of other) result }
+fn weigh_block(both: &Both, a: usize, own: Set, other: Set, near: Set, found: Chosen) -> Chosen
+    requires laid { Laid both.now.x.now both.now.layout_x.now × Laid both.now.y.now both.now.layout_y.now }
+    requires end_rows { EndRows both.now.x.now both.now.y.now both.now.mines.now both.now.rows.now }
+    requires a_bound { a < block_count both.now.x.now }
+    requires near_has { NearHas both.now.y.now (set_of other) (set_of near) }
+    requires chosen_to { ChosenTo both.now.x.now both.now.y.now a (set_of own) (set_of other) found }
+    ensures { ChosenTo both.now.x.now both.now.y.now (a + 1) (set_of own) (set_of other) result }
 {
-    let left = sets::both(own, rows::row_at(slots_x, a));
-    let b = shapes::block_at(x, a);
-    let base = b.base;
-    let usable = sets::both(base, near);
+    let left = sets::both(own, both.layout_x[a].slot);
+    let b = shapes::block_at(both.x, a);
+    let usable = sets::both(b.base, near);
     if sets::is_empty(usable) {
         return found;
     }
     let least = sets::first(usable);
-    let beside = sets::both(other, rows::row_at(mines, a));
-    common_weighs::settled(common_weighs::weigh_all(
-        y,
-        slots_y,
-        rows,
-        base,
-        least,
-        beside,
-        left,
-        common_weighs::begun(found),
-    ))
+    let beside = sets::both(other, both.mines[a]);
+    common_weighs::weigh_all(both, b.base, least, beside, left, found)
 }
 
 // The characters at the positions `other` of y. Where there is at most one position to weigh they are not asked for,
 // and all will do.
-fn nearby(own: Set, other: Set, y: &[u64], slots: &[u64]) -> Set
-    requires { Slotted y.now slots.now }
+fn nearby(own: Set, other: Set, y: &[u64], layout: &[LaidBlock]) -> Set
+    requires { Laid y.now layout.now }
     ensures { NearHas y.now (set_of other) (set_of result) }
 {
-    if sets::is_empty(own) {
+    if sets::is_empty(own) || sets::first(own) == sets::last(own) {
         return sets::below(256);
     }
-    if sets::first(own) == sets::last(own) {
-        return sets::below(256);
-    }
-    row_steps::joined(other, y, slots, y.len() / shapes::SIZE)
+    row_steps::joined(other, y, layout)
 }
 
 // The least character that may come next where the text so far leads to the positions `own` of x and `other` of y; 256
 // if none may.
-pub fn next(
-    x: &[u64],
-    y: &[u64],
-    slots_x: &[u64],
-    slots_y: &[u64],
-    mines: &[u64],
-    rows: &[u64],
-    own: Set,
-    other: Set,
-) -> Chosen
-    requires slotted { Slotted x.now slots_x.now × Slotted y.now slots_y.now }
-    requires end_rows { EndRows x.now y.now mines.now rows.now }
-    ensures { ChosenBy x.now y.now (Holds (set_of own)) (set_of own) (set_of other) result.code (set_of result.kept) }
+pub fn next(both: &Both, own: Set, other: Set) -> Chosen
+    requires laid { Laid both.now.x.now both.now.layout_x.now × Laid both.now.y.now both.now.layout_y.now }
+    requires end_rows { EndRows both.now.x.now both.now.y.now both.now.mines.now both.now.rows.now }
+    ensures { ChosenBy both.now.x.now both.now.y.now (Holds (set_of own)) (set_of own) (set_of other) result.code (set_of result.kept) }
 {
-    let n = x.len() / shapes::SIZE;
-    let near = nearby(own, other, y, slots_y);
+    let near = nearby(own, other, both.y, both.layout_y);
     let mut g = Chosen {
         code: 256,
         kept: own,
     };
-    let mut a = 0;
-    while a < n {
-        if sets::meets(own, rows::row_at(slots_x, a)) {
-            g = weigh_block(x, y, slots_x, slots_y, mines, rows, a, own, other, near, g);
+    for a in 0..both.layout_x.len() {
+        if sets::meets(own, both.layout_x[a].slot) {
+            g = weigh_block(both, a, own, other, near, g);
         }
-        a += 1;
     }
     g
 }

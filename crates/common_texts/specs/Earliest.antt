@@ -1,7 +1,5 @@
 -- Document 02, order 2: the earliest common text of two shapes in our order, if there is one.
-use Rattle.std.specs.Prelude.{◌≡◌, List, ◌++◌, ℕ, length, drop}
-use Rattle.answers.specs.declared.Shown.{Shown}
-use Rattle.answers.specs.declared.Shown.TheVariants.{Text, None as no_text, Refused}
+use Rattle.std.specs.Prelude.{◌≡◌, List, ◌++◌, ℕ, length, drop, Option, Some, None}
 use Rattle.shapes.specs.Shape.{Block, Fits}
 use Rattle.shapes.specs.Lent.{shape_of}
 use Rattle.texts.specs.Order.{AtMost}
@@ -28,8 +26,7 @@ pub record NothingShown (xs ys out out' : List ℕ) : Type 0 where
   pub nothing : NoCommon (shape_of xs) (shape_of ys)
   pub kept : out' ≡ out
 
--- What the work on two accepted shapes answers: nothing is refused any more.
-abbrev pub ShowAnswer : List ℕ → List ℕ → List ℕ → List ℕ → Shown → Type 0
-ShowAnswer xs ys out out' (Text n) = TextShown xs ys out out' n
-ShowAnswer xs ys out out' no_text = NothingShown xs ys out out'
-ShowAnswer xs ys out out' (Refused r) = ⊥
+-- What the work on two accepted shapes answers: the text's length, or that there is none.
+abbrev pub ShowAnswer : List ℕ → List ℕ → List ℕ → List ℕ → Option ℕ → Type 0
+ShowAnswer xs ys out out' (Some n) = TextShown xs ys out out' n
+ShowAnswer xs ys out out' None = NothingShown xs ys out out'

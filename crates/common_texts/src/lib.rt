@@ -10,54 +10,36 @@ ghost use Rattle.common_back.specs.Back.{EndRows};
 ghost use Rattle.common_writes.specs.Code.{Started};
 ghost use Rattle.common_texts.specs.Earliest.{ShowAnswer};
 
-use answers::Shown;
 use common_next::Front;
+use common_weighs::Both;
 use common_writes::Totals;
+use rows::LaidBlock;
 
 // Where a shape stands before the first character.
-fn start(shape: &[u64], zones: &[u64], ends: &[u64], slots: &[u64]) -> Front
-    requires { Laid shape.now zones.now ends.now slots.now }
+fn start(shape: &[u64], layout: &[LaidBlock]) -> Front
+    requires { Laid shape.now layout.now }
     ensures { Started shape.now result }
 {
-    let n = shape.len() / shapes::SIZE;
-    let runs = row_steps::all_runs(zones, ends, n);
-    let free = runs.free;
-    let stops = runs.stops;
+    let runs = row_steps::all_runs(layout);
     Front {
         row: row_steps::close_forth(runs, sets::single(0)),
-        takes: row_steps::matching(sets::single(0), shape, slots, n),
-        free: free,
-        stops: stops,
+        takes: row_steps::matching(sets::single(0), shape, layout),
+        runs,
     }
 }
 
-// The same once both shapes are laid out: none if from their starts not both can end.
-pub fn earliest_laid(
-    x: &[u64],
-    y: &[u64],
-    zones_x: &[u64],
-    ends_x: &[u64],
-    slots_x: &[u64],
-    zones_y: &[u64],
-    ends_y: &[u64],
-    slots_y: &[u64],
-    mines: &[u64],
-    rows: &[u64],
-    last: Totals,
-    out: &mut [u8],
-) -> Shown
-    requires laid { Laid x.now zones_x.now ends_x.now slots_x.now × Laid y.now zones_y.now ends_y.now slots_y.now }
-    requires end_rows { EndRows x.now y.now mines.now rows.now }
-    requires own_value { (last.own ≡ total (shape_of x.now)) × (last.other ≡ total (shape_of y.now)) }
+// The same once both shapes are laid out: its length; none if from their starts not both can end.
+pub fn earliest_laid(both: &Both, last: Totals, out: &mut [u8]) -> Option<usize>
+    requires laid { Laid both.now.x.now both.now.layout_x.now × Laid both.now.y.now both.now.layout_y.now }
+    requires end_rows { EndRows both.now.x.now both.now.y.now both.now.mines.now both.now.rows.now }
+    requires own_value { (last.own ≡ total (shape_of both.now.x.now)) × (last.other ≡ total (shape_of both.now.y.now)) }
     requires in_bounds { 250 ≤ length out.old }
-    ensures { ShowAnswer x.now y.now out.old out.new result }
+    ensures { ShowAnswer both.now.x.now both.now.y.now out.old out.new result }
 {
-    if !sets::has(rows::row_at(rows, 0), 0) {
-        return Shown::None;
+    if !sets::has(both.rows[0], 0) {
+        return None;
     }
-    let own = start(x, zones_x, ends_x, slots_x);
-    let other = start(y, zones_y, ends_y, slots_y);
-    Shown::Text(common_writes::write(
-        x, y, slots_x, slots_y, mines, rows, last, last.own, 0, own, other, out,
-    ))
+    let own = start(both.x, both.layout_x);
+    let other = start(both.y, both.layout_y);
+    Some(common_writes::write(both, last, last.own, 0, own, other, out))
 }

@@ -2,10 +2,12 @@
 -- Assumes nothing.
 use mathlib.Core.Path.{◌≡◌, refl, sym, subst}
 use mathlib.Core.List.{List, []}
-use mathlib.Core.Logic.{inl, inr}
+use mathlib.Core.Logic.{inl, inr, ⊎_elim}
+use Rattle.std.proofs.Common.{min}
 use Prim.Native.Nat.{ℕ, ◌+◌, ◌*◌, ◌%◌, ◌^◌, ◌≤◌, ◌<◌}
 use native.Mathlib.Omega.{arith}
 use lib.Bits.{bit_and}
+use Rattle.plain.proofs.Plain.{lt_or_le}
 use Rattle.bases.specs.Base.{Holds, Empty, Meets, Least}
 use Rattle.sets.specs.Set.{Exactly, OneUp}
 use Rattle.sets.proofs.Exact.{exactly_as, both_exactly, up_exactly}
@@ -13,7 +15,8 @@ use Rattle.shapes.specs.Shape.{Block, total, block_count}
 use Rattle.shapes.specs.Lent.{shape_of, block_at}
 use Rattle.walks.specs.Walk.{Walk, here, skip, slot_at}
 use Rattle.walks.proofs.Walks.{walk_append}
-use Rattle.rows.specs.Row.{row_in}
+use Rattle.rows.specs.Row.{slot_in}
+use Rattle.rows.specs.declared.LaidBlock.{LaidBlock}
 use Rattle.rows.specs.Steps.{Leads, there, step, MeetsOne}
 use Rattle.row_paths.specs.Laid.{Laid}
 use Rattle.row_paths.specs.Rows.{Zones}
@@ -74,8 +77,8 @@ row_after_lem x row takes c {a} {u} short t d e y = exactly_as to from y
 
 -- ---- the positions that take a character
 
-pub takes_char : {x z e s : List ℕ} → Laid x z e s → {k one m code : ℕ} → k ≡ block_count x → Exactly one (λ c. c ≡ code)
-    → Exactly m (MeetsOne (λ j. (block_at x j).base) (row_in s) k one) → Exactly m (λ q. Holds (slot_at (shape_of x) q).base code)
+pub takes_char : {x : List ℕ} {t : List LaidBlock} → Laid x t → {k one m code : ℕ} → k ≡ block_count x → Exactly one (λ c. c ≡ code)
+    → Exactly m (MeetsOne (λ j. (block_at x j).base) (slot_in t) k one) → Exactly m (λ q. Holds (slot_at (shape_of x) q).base code)
 takes_char {x} l {code = code} d o y = exactly_as
     (λ q m. subst (Holds (slot_at (shape_of x) q).base) (o.so m.shared m.second) m.first)
     (λ q h. record { shared = code; first = h; second = o.has code refl })
@@ -105,7 +108,7 @@ module _ {Y : ℕ → Block} {B S : ℕ → ℕ} {k : ℕ} (s : SlotRows Y B S k
             }),
           )
 
-pub shared_row : {y z e s : List ℕ} → Laid y z e s → {k : ℕ} → k ≡ block_count y → (base row : ℕ) {j n : ℕ} → Exactly j (MeetsOne (row_in s) (λ i. (block_at y i).base) k row) → n ≡ bit_and base j
+pub shared_row : {y : List ℕ} {t : List LaidBlock} → Laid y t → {k : ℕ} → k ≡ block_count y → (base row : ℕ) {j n : ℕ} → Exactly j (MeetsOne (slot_in t) (λ i. (block_at y i).base) k row) → n ≡ bit_and base j
     → Exactly n (SharedAt (slot_at (shape_of y)) base row)
 shared_row {y} l d base row x e = shared_in (slot_rows_at y d l.lay) base row x e
 
@@ -121,8 +124,8 @@ module _ {Y : ℕ → Block} {base row code : ℕ} where
     unfolding Empty
     sooner_none n = record { so = inl refl; no_later = omega arith; least = λ c w. absurd (n c (x.has c w)) }
 
-    pub sooner_found : (r : ℕ) → Least shared r → r < 256 → r < code → Sooner Y base row code r
-    sooner_found r l b h = record { so = inr (b, x.so r l.held); no_later = omega arith; least = λ c w. (l.least c (x.has c w), b) }
-
-    pub sooner_kept : (r : ℕ) → Least shared r → r < 256 → code ≤ r → Sooner Y base row code code
-    sooner_kept r l b h = record { so = inl refl; no_later = omega arith; least = λ c w. let v = l.least c (x.has c w) in (omega arith, omega arith) }
+    pub sooner_least : (r : ℕ) {n : ℕ} → n ≡ min code r → Least shared r → r < 256 → Sooner Y base row code n
+    sooner_least r {n} e l b = ⊎_elim
+        (λ h. let is : n ≡ r = omega arith in subst (Sooner Y base row code) (sym is) (record { so = inr (b, x.so r l.held); no_later = omega arith; least = λ c w. (l.least c (x.has c w), b) }))
+        (λ h. let is : n ≡ code = omega arith in subst (Sooner Y base row code) (sym is) (record { so = inl refl; no_later = omega arith; least = λ c w. let v = l.least c (x.has c w) in (omega arith, omega arith) }))
+        (lt_or_le r code)

@@ -8,6 +8,7 @@ use lib.Bits.{bit_and, bit_or}
 use Rattle.bases.specs.Base.{Holds, Empty, Meets}
 use Rattle.plain.proofs.Plain.{eq_or_ne}
 use Rattle.sets.specs.Set.{set_of, Exactly}
+use Rattle.sets.specs.declared.Set.{Set}
 use Rattle.sets.proofs.Exact.{exactly_as, exactly_at, both_exactly, either_exactly, down_exactly, held_or_not}
 use Rattle.shapes.specs.Shape.{Block}
 use Rattle.shapes.specs.Lent.{shape_of}
@@ -143,22 +144,22 @@ pub weighed : {X Y : ℕ → Block} {U W P Q base E left : ℕ} (g r : Weighed) 
     → {left' : ℕ} → Exactly left' (λ e. Holds left e × (e ≡ i → ⊥)) → {here : ℕ} → Exactly here (λ j. Holds Q j × Meets base (Y j).base × Path X Y U W (i + 1) (j + 1))
     → WeighedBy Y base here i g r → WeighingAt X Y U W P Q base E left' r
 weighed {X} {Y} {U} {W} {P} {Q} {base} {E} g r w i at {left'} less b (bare n e s k) =
-    subst (λ (c : ℕ). Weighing X Y U W P Q base E left' c (set_of r.kept) (set_of r.seen)) (sym e)
-    (subst (λ (v : ℕ). Weighing X Y U W P Q base E left' g.code (set_of r.kept) v) (sym s) (weighed_bare w i at less b n k))
+    subst (λ (c : ℕ). Weighing X Y U W P Q base E left' c (set_of r.found.kept) (set_of r.seen)) (sym e)
+    (subst (λ (v : ℕ). Weighing X Y U W P Q base E left' g.found.code (set_of r.found.kept) v) (sym s) (weighed_bare w i at less b n k))
 weighed {X} {Y} {U} {W} {P} {Q} {base} {E} g r w i at {left'} less b (WeighedBy.some fresh x s v k) =
-    subst (λ (c : ℕ). Weighing X Y U W P Q base E left' r.code c (set_of r.seen)) (sym k) (weighed_some w i at less b x s v)
+    subst (λ (c : ℕ). Weighing X Y U W P Q base E left' r.found.code c (set_of r.seen)) (sym k) (weighed_some w i at less b x s v)
 
 -- ---- one after the other
 
 -- From `members` on those of `left` are left, for each X that has the base there, and whatever leads to P and Q:
 -- `beside` has those of Q whose base meets it.
-pub record WeighedTo (y rows : List ℕ) (base beside members : ℕ) (begun : Weighed) (left : ℕ) (g : Weighed) : Type 0 where
+pub record WeighedTo (y : List ℕ) (rows : List Set) (base beside members : ℕ) (begun : Weighed) (left : ℕ) (g : Weighed) : Type 0 where
   pub inside : (i : ℕ) → Holds left i → Holds members i
   pub holds : (X : ℕ → Block) (U W P Q E : ℕ) → Exactly beside (λ j. Holds Q j × Meets base (slot_at (shape_of y) j).base)
       → ((i : ℕ) → Holds members i → Exactly (row_in rows (i + 1)) (λ j. Path X (slot_at (shape_of y)) U W (i + 1) j))
       → WeighingAt X (slot_at (shape_of y)) U W P Q base E members begun → WeighingAt X (slot_at (shape_of y)) U W P Q base E left g
 
-module _ {y rows : List ℕ} {base beside : ℕ} where
+module _ {y : List ℕ} {rows : List Set} {base beside : ℕ} where
   pub weighed_none : {left : ℕ} (g : Weighed) → WeighedTo y rows base beside left g left g
   weighed_none g = record { inside = λ i h. h; holds = λ X U W P Q E b t w. w }
 
@@ -171,5 +172,13 @@ module _ {y rows : List ℕ} {base beside : ℕ} where
         (live_beside i row beside base Q (exactly_at re (t i (v.inside i at))) b de he) by;
   }
 
-  pub weighed_all : {least left₀ left : ℕ} (g₀ g : Weighed) → WeighedTo y rows base beside left₀ g₀ left g → Empty left ⊎ (g.code ≤ least) → WeighedAll y rows base least beside left₀ g₀ g
-  weighed_all {left = left} g₀ g v s = record { holds = λ X U W P Q E b t w. record { left = left; weighing = v.holds X U W P Q E b t w; enough = s } }
+  pub weighed_all : {least left₀ left : ℕ} (g₀ g : Weighed) → set_of g₀.seen ≡ 0 → WeighedTo y rows base beside left₀ g₀ left g → Empty left ⊎ (g.found.code ≤ least)
+      → WeighedAll y rows base least beside left₀ g₀.found g.found
+  weighed_all {left₀ = left₀} {left} g₀ g e v s = record {
+    holds = λ X U W P Q E b t w. record {
+      left = left;
+      seen = set_of g.seen;
+      weighing = v.holds X U W P Q E b t (subst (Weighing X (slot_at (shape_of y)) U W P Q base E left₀ g₀.found.code (set_of g₀.found.kept)) (sym e) w);
+      enough = s;
+    };
+  }

@@ -3,6 +3,7 @@ use Rattle.std.specs.Prelude.{◌≡◌, List, ◌⊎◌, ℕ, ◌+◌, ◌≤�
 use Rattle.std.specs.Int.Bits.{bit_or}
 use Rattle.bases.specs.Base.{Holds, Empty, Meets}
 use Rattle.sets.specs.Set.{set_of, Exactly}
+use Rattle.sets.specs.declared.Set.{Set}
 use Rattle.shapes.specs.Shape.{Block, total}
 use Rattle.shapes.specs.Lent.{shape_of}
 use Rattle.walks.specs.Walk.{Path, slot_at}
@@ -33,27 +34,29 @@ pub record Weighing (X Y : ℕ → Block) (U W P Q base E left code kept seen : 
   pub inside : (i : ℕ) → Holds left i → Holds P i × (i < E) × ((X i).base ≡ base)
 
 abbrev pub WeighingAt : (ℕ → Block) → (ℕ → Block) → ℕ → ℕ → ℕ → ℕ → ℕ → ℕ → ℕ → Weighed → Type 0
-WeighingAt X Y U W P Q base E left g = Weighing X Y U W P Q base E left g.code (set_of g.kept) (set_of g.seen)
+WeighingAt X Y U W P Q base E left g = Weighing X Y U W P Q base E left g.found.code (set_of g.found.kept) (set_of g.seen)
 
 -- The position i is weighed, where `here` has the positions beside which both can take a character there: it is dropped
 -- if there is none.
 pub data WeighedBy (Y : ℕ → Block) (base here i : ℕ) (g r : Weighed) : Type 0 where
-  bare : Empty here → r.code ≡ g.code → set_of r.seen ≡ set_of g.seen → Exactly (set_of r.kept) (λ e. Holds (set_of g.kept) e × (e ≡ i → ⊥)) → WeighedBy Y base here i g r
-  some : (fresh : ℕ) → Exactly fresh (λ e. Holds here e × (Holds (set_of g.seen) e → ⊥)) → Sooner Y base fresh g.code r.code
-      → set_of r.seen ≡ bit_or (set_of g.seen) here → set_of r.kept ≡ set_of g.kept → WeighedBy Y base here i g r
+  bare : Empty here → r.found.code ≡ g.found.code → set_of r.seen ≡ set_of g.seen → Exactly (set_of r.found.kept) (λ e. Holds (set_of g.found.kept) e × (e ≡ i → ⊥))
+      → WeighedBy Y base here i g r
+  some : (fresh : ℕ) → Exactly fresh (λ e. Holds here e × (Holds (set_of g.seen) e → ⊥)) → Sooner Y base fresh g.found.code r.found.code
+      → set_of r.seen ≡ bit_or (set_of g.seen) here → set_of r.found.kept ≡ set_of g.found.kept → WeighedBy Y base here i g r
 
 -- Of `members`, positions with one base, enough are weighed, for each X that has the base there, and whatever leads to
 -- P and Q: none is left, or none can bring a character before `least`. `beside` has the positions of Q whose base meets
 -- it.
-pub record Enough (X Y : ℕ → Block) (U W P Q base E least : ℕ) (g : Weighed) : Type 0 where
+pub record Enough (X Y : ℕ → Block) (U W P Q base E least : ℕ) (g : Chosen) : Type 0 where
   pub left : ℕ
-  pub weighing : WeighingAt X Y U W P Q base E left g
+  pub seen : ℕ
+  pub weighing : Weighing X Y U W P Q base E left g.code (set_of g.kept) seen
   pub enough : Empty left ⊎ (g.code ≤ least)
 
-pub record WeighedAll (y rows : List ℕ) (base least beside members : ℕ) (begun g : Weighed) : Type 0 where
+pub record WeighedAll (y : List ℕ) (rows : List Set) (base least beside members : ℕ) (begun g : Chosen) : Type 0 where
   pub holds : (X : ℕ → Block) (U W P Q E : ℕ) → Exactly beside (λ j. Holds Q j × Meets base (slot_at (shape_of y) j).base)
       → ((i : ℕ) → Holds members i → Exactly (row_in rows (i + 1)) (λ j. Path X (slot_at (shape_of y)) U W (i + 1) j))
-      → WeighingAt X (slot_at (shape_of y)) U W P Q base E members begun → Enough X (slot_at (shape_of y)) U W P Q base E least g
+      → Weighing X (slot_at (shape_of y)) U W P Q base E members begun.code (set_of begun.kept) 0 → Enough X (slot_at (shape_of y)) U W P Q base E least g
 
 -- Near has every character at the positions Q of the shape y.
 pub record NearHas (y : List ℕ) (Q near : ℕ) : Type 0 where

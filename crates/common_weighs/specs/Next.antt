@@ -4,7 +4,8 @@ use Rattle.std.specs.Prelude.{◌≡◌, List, [], ℕ, ◌+◌, ◌≤◌, ◌<
 use Rattle.bases.specs.Base.{Holds}
 use Rattle.shapes.specs.Shape.{Block, block_count}
 use Rattle.walks.specs.Walk.{Walk, Path}
-use Rattle.rows.specs.Row.{row_in}
+use Rattle.rows.specs.Row.{zone_in, end_in}
+use Rattle.rows.specs.declared.LaidBlock.{LaidBlock}
 use Rattle.rows.specs.Steps.{Together}
 use Rattle.row_paths.specs.Laid.{Laid}
 
@@ -45,16 +46,8 @@ pub record After (X : ℕ → Block) (P c q : ℕ) : Type 0 where
   pub takes : Holds (X from).base c
   pub ends : Walk X q (from + 1) []
 
--- Where a run of the shape x may end, and where it then is: all zones and all ends of its rows.
+-- Where a run of the shape x may end, and where it then is: all zones and all ends of its layout.
 pub record RunEnds (x : List ℕ) (free stops : ℕ) : Type 0 where
-  pub zones : List ℕ
-  pub ends : List ℕ
-  pub slots : List ℕ
-  pub laid : Laid x zones ends slots
-  pub all : Together (row_in zones) (row_in ends) (block_count x) free stops
-
--- A lent shape and the rows of its blocks' positions.
-pub record Slotted (x slots : List ℕ) : Type 0 where
-  pub zones : List ℕ
-  pub ends : List ℕ
-  pub laid : Laid x zones ends slots
+  pub layout : List LaidBlock
+  pub laid : Laid x layout
+  pub all : Together (zone_in layout) (end_in layout) (block_count x) free stops

@@ -121,7 +121,7 @@ meeting_after {P = P} {Q} {kept = kept} {c} m k x y = record {
 
 -- where a shape stands after it
 pub stands_after : {x : List ℕ} {c : ℕ} {s : Front} (K : ℕ)
-    → Exactly (set_of s.takes) (λ q. Holds (slot_at (shape_of x) q).base c) → Exactly (set_of s.row) (After (slot_at (shape_of x)) K c) → RunEnds x (set_of s.free) (set_of s.stops) → Stands x c s
+    → Exactly (set_of s.takes) (λ q. Holds (slot_at (shape_of x) q).base c) → Exactly (set_of s.row) (After (slot_at (shape_of x)) K c) → RunEnds x (set_of s.runs.free) (set_of s.runs.stops) → Stands x c s
 stands_after K t r f = record { closed = closed_after K r; takes = t; runs = f }
 
 -- one character less may still come

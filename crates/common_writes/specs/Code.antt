@@ -2,13 +2,16 @@
 use Rattle.std.specs.Prelude.{◌≡◌, List, [], ◌++◌, ℕ, ◌+◌, ◌≤◌, length, drop}
 use Rattle.bases.specs.Base.{Holds}
 use Rattle.sets.specs.Set.{set_of, Exactly}
+use Rattle.sets.specs.declared.Set.{Set}
 use Rattle.shapes.specs.Shape.{Block, total}
 use Rattle.shapes.specs.Lent.{shape_of}
 use Rattle.texts.specs.Order.{AtMost}
 use Rattle.walks.specs.Walk.{Walk, Path, slot_at}
+use Rattle.rows.specs.declared.LaidBlock.{LaidBlock}
+use Rattle.row_paths.specs.Laid.{Laid}
 use Rattle.common_back.specs.Back.{EndRows}
 use Rattle.common_next.specs.declared.Front.{Front}
-use Rattle.common_weighs.specs.Next.{Slotted, RunEnds}
+use Rattle.common_weighs.specs.Next.{RunEnds}
 
 -- From one of the positions P the text t is read to the end U.
 pub record Finishes (X : ℕ → Block) (U P : ℕ) (t : List ℕ) : Type 0 where
@@ -34,25 +37,25 @@ pub record Meeting (X Y : ℕ → Block) (U W P Q : ℕ) : Type 0 where
   pub held_other : Holds Q other
   pub path : Path X Y U W own other
 
--- The rows of both shapes' blocks, and those from which both can end.
-pub record BothLaid (x y slots-x slots-y mines rows : List ℕ) : Type 0 where
-  pub own : Slotted x slots-x
-  pub other : Slotted y slots-y
+-- Both shapes laid out, and the rows from which both can end.
+pub record BothLaid (x y : List ℕ) (layout-x layout-y : List LaidBlock) (mines rows : List Set) : Type 0 where
+  pub own : Laid x layout-x
+  pub other : Laid y layout-y
   pub table : EndRows x y mines rows
 
 -- Where one shape stands: at positions closed under the ends of runs; `takes` are those that can take the character
--- code, `free` those where a run may end, `stops` where it then is.
+-- code, `runs` where a run may end and where it then is.
 pub record Stands (x : List ℕ) (code : ℕ) (s : Front) : Type 0 where
   pub closed : WithEnds (slot_at (shape_of x)) (set_of s.row)
   pub takes : Exactly (set_of s.takes) (λ q. Holds (slot_at (shape_of x) q).base code)
-  pub runs : RunEnds x (set_of s.free) (set_of s.stops)
+  pub runs : RunEnds x (set_of s.runs.free) (set_of s.runs.stops)
 
 -- Before the first character: at the positions that the ends of runs lead to from the start, and the character 0 stands
 -- for the one before.
 pub record Started (x : List ℕ) (s : Front) : Type 0 where
   pub row : Exactly (set_of s.row) (λ q. Walk (slot_at (shape_of x)) q 0 [])
   pub takes : Exactly (set_of s.takes) (λ q. Holds (slot_at (shape_of x) q).base 0)
-  pub runs : RunEnds x (set_of s.free) (set_of s.stops)
+  pub runs : RunEnds x (set_of s.runs.free) (set_of s.runs.stops)
 
 -- At most so many characters are left.
 pub record AtMostLeft (x : List ℕ) (P left : ℕ) : Type 0 where

@@ -4,7 +4,8 @@
 
 #![tactic(auto)]
 
-use answers::{Checked, Fit, Narrowed, Ran, Shown, Sought, Swept, Written};
+use answers::{Fit, Narrowed, Ran, Refusal, Sought, Swept};
+use kinds::Relation;
 
 // Judges a tray of pairs at once, up to 64, each by the quick sweep of one range of the lent blocks in another, into
 // the answer record of its number. Its promise is `SweepTray`. It is handed on as it is: a function that passes a slice
@@ -13,15 +14,15 @@ ghost use Rattle.dashed.specs.Promises.{CheckShape, FitsShape, Earlier, LeastTex
 
 pub use trays::sweep_tray;
 
-// Checks a shape, lent as 64-bit numbers, four to a block.
-pub fn check_shape(shape: &[u64]) -> Checked
+// Checks a shape, lent as 64-bit numbers, six to a block.
+pub fn check_shape(shape: &[u64]) -> Result<(), Refusal>
     ensures { CheckShape shape.now result }
 {
     shape_checks::check_lent(shape, 1)
 }
 
 // Whether a text, any bytes of any length, fits a shape.
-pub fn fits(shape: &[u64], text: &[u8]) -> Fit
+pub fn fits(shape: &[u64], text: &[u8]) -> Result<Fit, Refusal>
     ensures { FitsShape shape.now text.now result }
 {
     fitting::fits(shape, text)
@@ -35,14 +36,14 @@ pub fn earlier<'a>(first: &'a [u8], second: &'a [u8]) -> &'a [u8]
 }
 
 // The least text that fits the shape, into an output of at least 250 bytes; its length.
-pub fn least_text(shape: &[u64], out: &mut [u8]) -> Written
+pub fn least_text(shape: &[u64], out: &mut [u8]) -> Result<usize, Refusal>
     ensures { LeastText shape.now out.old out.new result }
 {
     extremes::least_text(shape, out)
 }
 
 // The greatest text that fits the shape, into an output of at least 250 bytes; its length.
-pub fn greatest_text(shape: &[u64], out: &mut [u8]) -> Written
+pub fn greatest_text(shape: &[u64], out: &mut [u8]) -> Result<usize, Refusal>
     ensures { GreatestText shape.now out.old out.new result }
 {
     extremes::greatest_text(shape, out)
@@ -50,11 +51,14 @@ pub fn greatest_text(shape: &[u64], out: &mut [u8]) -> Written
 
 // The quick sweep of x in y: a place for each block of x, block and offset, into an output of two numbers per block, or
 // that there cannot be a common text; with the looks made.
-pub fn sweep(x: &[u64], y: &[u64], out: &mut [u64]) -> Swept
+pub fn sweep(x: &[u64], y: &[u64], out: &mut [u64]) -> Result<Swept, Refusal>
     ensures { Sweep x.now y.now out.old out.new result }
 {
     sweep_calls::sweep(x, y, out)
 }
+
+// The calls that narrow a pair stand side by side: their names are the public interface, and what they share is
+// `kinds::narrow`.
 
 // Exact narrowing under equality of fields, a rule's kind 0: the texts are equal once trailing blanks are dropped from
 // both. None exactly if no filling of x and filling of y have two such texts; otherwise each block of the outputs keeps
@@ -70,11 +74,11 @@ pub fn narrow_padded(
     work: &mut [u8],
     out_x: &mut [u64],
     out_y: &mut [u64],
-) -> Narrowed
+) -> Result<Narrowed, Refusal>
     ensures { NarrowPadded x.now y.now work.old out_x.old out_y.old
         work.new out_x.new out_y.new result }
 {
-    kinds::narrow(rules::PADDED, x, y, work, out_x, out_y)
+    kinds::narrow(Relation::Padded, x, y, work, out_x, out_y)
 }
 
 // The same to the letter, a rule's kind 4: over the pairs of fillings with one and the same text. It is for files of
@@ -85,11 +89,11 @@ pub fn narrow_exact(
     work: &mut [u8],
     out_x: &mut [u64],
     out_y: &mut [u64],
-) -> Narrowed
+) -> Result<Narrowed, Refusal>
     ensures { NarrowExact x.now y.now work.old out_x.old out_y.old
         work.new out_x.new out_y.new result }
 {
-    kinds::narrow(rules::EXACT, x, y, work, out_x, out_y)
+    kinds::narrow(Relation::Exact, x, y, work, out_x, out_y)
 }
 
 // The same without regard to letter case, a rule's kind 5: over the pairs of fillings whose texts are equal once A to Z
@@ -102,11 +106,11 @@ pub fn narrow_any_case(
     work: &mut [u8],
     out_x: &mut [u64],
     out_y: &mut [u64],
-) -> Narrowed
+) -> Result<Narrowed, Refusal>
     ensures { NarrowAnyCase x.now y.now work.old out_x.old out_y.old
         work.new out_x.new out_y.new result }
 {
-    kinds::narrow(rules::ANY_CASE, x, y, work, out_x, out_y)
+    kinds::narrow(Relation::AnyCase, x, y, work, out_x, out_y)
 }
 
 // The same over the pairs in which the text of x is at most that of y, blanks counting as any character.
@@ -116,11 +120,11 @@ pub fn narrow_at_most(
     work: &mut [u8],
     out_x: &mut [u64],
     out_y: &mut [u64],
-) -> Narrowed
+) -> Result<Narrowed, Refusal>
     ensures { NarrowAtMost x.now y.now work.old out_x.old out_y.old
         work.new out_x.new out_y.new result }
 {
-    kinds::narrow(rules::AT_MOST, x, y, work, out_x, out_y)
+    kinds::narrow(Relation::AtMost, x, y, work, out_x, out_y)
 }
 
 // The same over the pairs in which the text of x is before that of y.
@@ -130,11 +134,11 @@ pub fn narrow_before(
     work: &mut [u8],
     out_x: &mut [u64],
     out_y: &mut [u64],
-) -> Narrowed
+) -> Result<Narrowed, Refusal>
     ensures { NarrowBefore x.now y.now work.old out_x.old out_y.old
         work.new out_x.new out_y.new result }
 {
-    kinds::narrow(rules::BEFORE, x, y, work, out_x, out_y)
+    kinds::narrow(Relation::Before, x, y, work, out_x, out_y)
 }
 
 // Exact narrowing of a join, the text of x being that of y followed by that of z: none exactly if no three fillings are
@@ -149,7 +153,7 @@ pub fn narrow_join(
     out_x: &mut [u64],
     out_y: &mut [u64],
     out_z: &mut [u64],
-) -> Narrowed
+) -> Result<Narrowed, Refusal>
     ensures { NarrowJoin x.now y.now z.now work.old out_x.old out_y.old out_z.old
         work.new out_x.new out_y.new out_z.new result }
 {
@@ -158,7 +162,12 @@ pub fn narrow_join(
 
 // The earliest text that fits both x and y, into an output of at least 250 bytes; its length; or that no text fits
 // both. It takes a work buffer of at least 63,001 bytes.
-pub fn common_text(x: &[u64], y: &[u64], work: &mut [u8], out: &mut [u8]) -> Shown
+pub fn common_text(
+    x: &[u64],
+    y: &[u64],
+    work: &mut [u8],
+    out: &mut [u8],
+) -> Result<Option<usize>, Refusal>
     ensures { CommonText x.now y.now work.old out.old work.new out.new result }
 {
     common_calls::common_text(x, y, work, out)
@@ -167,7 +176,7 @@ pub fn common_text(x: &[u64], y: &[u64], work: &mut [u8], out: &mut [u8]) -> Sho
 // Where a mark of at most 64 bytes first starts in the texts that fit the shape: the least and the greatest character
 // index, from 1, over the texts that have it, and whether every text has it, some lack it, or none has it. The empty
 // mark occurs at 1 in every text. It takes no work and no output buffer.
-pub fn find(shape: &[u64], mark: &[u8]) -> Sought
+pub fn find(shape: &[u64], mark: &[u8]) -> Result<Sought, Refusal>
     ensures { FindMark shape.now mark.now result }
 {
     find_calls::find(shape, mark)
@@ -186,7 +195,7 @@ pub fn run_book(counts: &[u64], blocks: &mut [u64], rules: &[u64], work: &mut [u
 
 // Runs a book file, any bytes, to its report, into an output of at least 32,768 bytes; the report's length. Refused are
 // the file (9, 8), then its book, then an output too short (5). It has its own work space.
-pub fn run_file(file: &[u8], report: &mut [u8]) -> Written
+pub fn run_file(file: &[u8], report: &mut [u8]) -> Result<usize, Refusal>
     ensures { RunFile file.now report.old report.new result }
 {
     file_calls::run_file(file, report)

@@ -1,5 +1,7 @@
 -- Two shapes of which the sweep says cannot, as they are lent, and which
 -- another relation than equality to the letter narrows. Assumes nothing.
+use Rattle.answers.specs.declared.Refusal.{Refusal}
+use Rattle.std.specs.Prelude.{Result, Ok, Err}
 use mathlib.Core.Path.{◌≡◌, refl, sym, ap, ◌∙◌, subst}
 use mathlib.Core.List.{List, [], ◌∷◌}
 use Prim.Native.Nat.{ℕ, ◌*◌, ◌^◌, ◌≤◌}
@@ -34,27 +36,26 @@ use Rattle.demands.proofs.Narrowed.{two_texts, of_two, exact_two}
 -- ---- whatever the shapes
 
 module _ {s : Two} (accepted : PairAccepted s.x s.y) where
-  cannots : (k : ℕ) → sweep_of (shape_of s.x) (shape_of s.y) ≡ cannot k → (out out' : List ℕ) (r : Swept) → sweep.Promise s out out' r
-      → 2 * length (shape_of s.x) ≤ length out → r ≡ Swept.Cannot k
-  cannots k swept out out' (Swept.Places j) p room = p.answer ∙ ap swept_of swept
-  cannots k swept out out' (Swept.Cannot j) p room = p.answer ∙ ap swept_of swept
-  cannots k swept out out' (Swept.Refused q) p room = absurd (not_due s.x s.y out p.0 accepted room)
+  cannots : (k : ℕ) → sweep_of (shape_of s.x) (shape_of s.y) ≡ cannot k → (out out' : List ℕ) (r : Result Swept Refusal) → sweep.Promise s out out' r
+      → 2 * length (shape_of s.x) ≤ length out → r ≡ Ok (Swept.Cannot k)
+  cannots k swept out out' (Ok s) p room = ap Ok (p.answer ∙ ap swept_of swept)
+  cannots k swept out out' (Err q) p room = absurd (not_due s.x s.y out p.0 accepted room)
 
   module _ (m m' : NarrowMemory) (room : HasRoom s m) where
     -- two texts that stand in the relation
     narrows : (R : List ℕ → List ℕ → Type 0) (t u : List ℕ) → Fits (shape_of s.x) t → Fits (shape_of s.y) u → R t u
-        → (r : Narrowed) → (narrowing (NarrowPromise R)).Promise s m m' r → r ≡ Narrowed.Narrow
-    narrows R t u x y h Narrowed.Narrow p = refl
-    narrows R t u x y h Narrowed.None p = absurd ((exact_two R).none_sound p (two_texts R (shape_of s.x) (shape_of s.y) t u x y h))
-    narrows R t u x y h (Narrowed.Refused q) p = absurd (narrow_not p.0 accepted room)
+        → (r : Result Narrowed Refusal) → (narrowing (NarrowPromise R)).Promise s m m' r → r ≡ (Ok Narrowed.Narrow)
+    narrows R t u x y h (Ok Narrowed.Narrow) p = refl
+    narrows R t u x y h (Ok Narrowed.None) p = absurd ((exact_two R).none_sound p (two_texts R (shape_of s.x) (shape_of s.y) t u x y h))
+    narrows R t u x y h (Err q) p = absurd (narrow_not p.0 accepted room)
 
     -- no text that fits both
-    says_none : ((t : List ℕ) → Fits (shape_of s.x) t → Fits (shape_of s.y) t → ⊥) → (r : Narrowed) → narrow_exact.Promise s m m' r → r ≡ Narrowed.None
-    says_none none Narrowed.Narrow p =
+    says_none : ((t : List ℕ) → Fits (shape_of s.x) t → Fits (shape_of s.y) t → ⊥) → (r : Result Narrowed Refusal) → narrow_exact.Promise s m m' r → r ≡ (Ok Narrowed.None)
+    says_none none (Ok Narrowed.Narrow) p =
         let x = of_two Same ((exact_two Same).none_complete p) in
         absurd (none x.0 x.2 (subst (Fits (shape_of s.y)) (sym x.4) x.3))
-    says_none none Narrowed.None p = refl
-    says_none none (Narrowed.Refused q) p = absurd (narrow_not p.0 accepted room)
+    says_none none (Ok Narrowed.None) p = refl
+    says_none none (Err q) p = absurd (narrow_not p.0 accepted room)
 
 -- ---- blocks of one character
 
@@ -101,9 +102,9 @@ fields_swept : sweep_of (shape_of padded_field) (shape_of bare_field) ≡ cannot
 unfolding shape_of items_of base_of shares_within shares before later forward push_look pushing push stretch_look stretching stretch stretches pushes sweep_of
 fields_swept = refl
 
-pub cannot_no_ground : (out out' : List ℕ) (m m' : NarrowMemory) (r : Swept) (u : Narrowed) → sweep.Promise fields out out' r
+pub cannot_no_ground : (out out' : List ℕ) (m m' : NarrowMemory) (r : Result Swept Refusal) (u : Result Narrowed Refusal) → sweep.Promise fields out out' r
     → narrow_padded.Promise fields m m' u
-    → 4 ≤ length out → HasRoom fields m → (r ≡ Swept.Cannot 4) × (u ≡ Narrowed.Narrow)
+    → 4 ≤ length out → HasRoom fields m → (r ≡ Ok (Swept.Cannot 4)) × (u ≡ (Ok Narrowed.Narrow))
 unfolding shape_of items_of
 cannot_no_ground out out' m m' r u p q h room = (
   cannots {s = fields} fields_accepted 4 fields_swept out out' r p h,
@@ -139,15 +140,15 @@ units_swept : sweep_of (shape_of capital_unit) (shape_of small_unit) ≡ cannot 
 unfolding shape_of items_of base_of shares_within shares before later forward push_look pushing push stretch_look stretching stretch stretches pushes sweep_of
 units_swept = refl
 
-pub case_no_ground : (out out' : List ℕ) (m m' n n' : NarrowMemory) (r : Swept) (u q : Narrowed) → sweep.Promise units out out' r
+pub case_no_ground : (out out' : List ℕ) (m m' n n' : NarrowMemory) (r : Result Swept Refusal) (u q : Result Narrowed Refusal) → sweep.Promise units out out' r
     → narrow_exact.Promise units n n' u
     → narrow_any_case.Promise units m m' q → 2 ≤ length out → HasRoom units n → HasRoom units m
-    → (r ≡ Swept.Cannot 1) × (u ≡ Narrowed.None) × (q ≡ Narrowed.Narrow)
+    → (r ≡ Ok (Swept.Cannot 1)) × (u ≡ (Ok Narrowed.None)) × (q ≡ (Ok Narrowed.Narrow))
 unfolding shape_of items_of
 case_no_ground out out' m m' n n' r u q p e a h exact-room room =
     let swept = cannots {s = units} units_accepted 1 units_swept out out' r p h in (
       swept,
-      says_none {s = units} units_accepted n n' exact-room ((subst (λ (x : Swept). sweep.Promise units out out' x) swept p).meaning.none 1 refl) u e,
+      says_none {s = units} units_accepted n n' exact-room ((subst (λ (x : Result Swept Refusal). sweep.Promise units out out' x) swept p).meaning.none 1 refl) u e,
       narrows {s = units} units_accepted m m' room AnyCase (78 ∷ []) (110 ∷ []) capital_fits small_fits
           (alike_any (Alike.more (capital_counts 78 (omega arith) (omega arith)) Alike.none)) q a,
     )

@@ -1,5 +1,7 @@
 -- A shape whose one text is one character, whichever of the 256: it is accepted, and every call meets that text.
 -- Assumes nothing.
+use Rattle.answers.specs.declared.Refusal.{Refusal}
+use Rattle.std.specs.Prelude.{Result, Ok, Err, Option, Some, None}
 use mathlib.Core.Path.{◌≡◌, refl, sym, ap, ◌∙◌, subst}
 use mathlib.Core.Bool.{Bool, true, false}
 use mathlib.Core.List.{List, [], ◌∷◌, ◌++◌, append-nil}
@@ -9,9 +11,7 @@ use lib.ListN.{length, take, drop}
 use lib.Pow.{pow-lt}
 use lib.Seq.{take_at}
 use Rattle.answers.specs.declared.Fit.{Fit}
-use Rattle.answers.specs.declared.Shown.{Shown}
 use Rattle.answers.specs.declared.Sought.{Sought}
-use Rattle.answers.specs.declared.Written.{Written}
 use Rattle.plain.specs.All.{All}
 use Rattle.plain.specs.All.All.{more}
 use Rattle.bases.specs.Base.{Holds, Empty}
@@ -88,28 +88,28 @@ module _ (c : ℕ) where
         short = subst (λ (S : List Block). total S ≤ 250) (sym shape_is) (omega arith);
       }
 
-  pub fits_code : (r : Fit) → FitsShape (alone c) (c ∷ []) r → r ≡ Fit.Fits
-  fits_code Fit.Fits p = refl
-  fits_code Fit.Unfit p = absurd (p.1 fits)
-  fits_code (Fit.Refused q) p = absurd (shape_not p accepted)
+  pub fits_code : (r : Result Fit Refusal) → FitsShape (alone c) (c ∷ []) r → r ≡ (Ok Fit.Fits)
+  fits_code (Ok Fit.Fits) p = refl
+  fits_code (Ok Fit.Unfit) p = absurd (p.1 fits)
+  fits_code (Err q) p = absurd (shape_not p accepted)
 
-  pub extreme_code : (d : Direction) (out out' : List ℕ) (r : Written) → 250 ≤ length out → ExtremePromise d (alone c) out out' r
-      → (r ≡ Written.Text 1) × (take 1 out' ≡ c ∷ [])
-  extreme_code d out out' (Written.Text n) h p =
+  pub extreme_code : (d : Direction) (out out' : List ℕ) (r : Result ℕ Refusal) → 250 ≤ length out → ExtremePromise d (alone c) out out' r
+      → (r ≡ Ok 1) × (take 1 out' ≡ c ∷ [])
+  extreme_code d out out' (Ok n) h p =
       let text = only _ (meant d n p).fits in
       let one : n ≡ 1 = p.length_is ∙ ap length (sym (written d n p) ∙ text) in
-      (ap Written.Text one, subst (λ (k : ℕ). take k out' ≡ c ∷ []) one text)
-  extreme_code d out out' (Written.Refused q) h p = absurd ((refusals.text d).demand.acceptable (accepted, h) q p)
+      (ap Ok one, subst (λ (k : ℕ). take k out' ≡ c ∷ []) one text)
+  extreme_code d out out' (Err q) h p = absurd ((refusals.text d).demand.acceptable (accepted, h) q p)
 
-  pub common_code : (m m' : CommonMemory) (r : Shown) → 63001 ≤ length m.work → 250 ≤ length m.out
-      → common_text_call.Promise (record { x = alone c; y = alone c }) m m' r → (r ≡ Shown.Text 1) × (take 1 m'.out ≡ c ∷ [])
-  common_code m m' (Shown.Text n) w o p =
+  pub common_code : (m m' : CommonMemory) (r : Result (Option ℕ) Refusal) → 63001 ≤ length m.work → 250 ≤ length m.out
+      → common_text_call.Promise (record { x = alone c; y = alone c }) m m' r → (r ≡ Ok (Some 1)) × (take 1 m'.out ≡ c ∷ [])
+  common_code m m' (Ok (Some n)) w o p =
       let s = p.1 in
       let text = only s.text s.earliest.fits_first in
       let one : n ≡ 1 = s.length_is ∙ ap length text in
-      (ap Shown.Text one, ap (take 1) (s.bytes ∙ ap (λ (t : List ℕ). t ++ drop n m.out) text) ∙ take_at (c ∷ []) (drop n m.out) 1 refl)
-  common_code m m' Shown.None w o p = absurd (p.1.nothing.none (c ∷ []) fits fits)
-  common_code m m' (Shown.Refused q) w o p = absurd ((refusals.common_text).demand.acceptable
+      (ap (λ (k : ℕ). Ok (Some k)) one, ap (take 1) (s.bytes ∙ ap (λ (t : List ℕ). t ++ drop n m.out) text) ∙ take_at (c ∷ []) (drop n m.out) 1 refl)
+  common_code m m' (Ok None) w o p = absurd (p.1.nothing.none (c ∷ []) fits fits)
+  common_code m m' (Err q) w o p = absurd ((refusals.common_text).demand.acceptable
       (record { first = accepted; second = accepted }, record { work = w; output = o }) q p)
 
   asked : Asked (alone c) (c ∷ [])
@@ -121,7 +121,7 @@ module _ (c : ℕ) where
   at_one : {i : ℕ} → SomeFirst (c ∷ []) (shape_of (alone c)) i → i ≡ 1
   at_one {i} s = let w = occurs_within (subst (λ (t : List ℕ). OccursAt (c ∷ []) t i) (only s.text s.fits) s.first.there) in let a = w.0 in let b = w.1 in omega arith
 
-  pub mark_code : (r : Sought) → FindMark (alone c) (c ∷ []) r → (lacking r ≡ false) × (least_index r ≡ 1) × (greatest_index r ≡ 1)
+  pub mark_code : (r : Result Sought Refusal) → FindMark (alone c) (c ∷ []) r → (lacking r ≡ false) × (least_index r ≡ 1) × (greatest_index r ≡ 1)
   mark_code r p = (none_lacks (lacking r) refl, at_one (least_there asked r p some), at_one (greatest_there asked r p some))
     where
       some : 0 < least_index r

@@ -1,10 +1,10 @@
 -- The user's three demands hold: each field by citation. Assumes nothing.
+use Rattle.std.specs.Prelude.{Ok}
 use mathlib.Core.Path.{◌≡◌, refl, sym, ap, ◌∙◌, subst}
 use mathlib.Core.List.{List}
 use Prim.Native.Nat.{ℕ}
 use lib.ListN.{take, drop}
 use lib.Seq.{take_at}
-use Rattle.answers.specs.declared.Written.{Written}
 use Rattle.extreme_steps.specs.declared.Direction.{Direction}
 use Rattle.extreme_steps.specs.declared.Direction.TheVariants.{Least, Greatest}
 use Rattle.extremes.specs.Extreme.{ExtremePromise, Extreme}
@@ -52,10 +52,10 @@ demand_1 = record {
 -- ---- demand 2
 
 -- the text at the start of the output
-pub written : (d : Direction) {xs out out' : List ℕ} (n : ℕ) → ExtremePromise d xs out out' (Written.Text n) → take n out' ≡ extreme d (shape_of xs)
+pub written : (d : Direction) {xs out out' : List ℕ} (n : ℕ) → ExtremePromise d xs out out' (Ok n) → take n out' ≡ extreme d (shape_of xs)
 written d {out} n p = ap (take n) p.bytes ∙ take_at _ (drop n out) n (sym p.length_is)
 
-pub meant : (d : Direction) {xs out out' : List ℕ} (n : ℕ) → ExtremePromise d xs out out' (Written.Text n) → Extreme d (shape_of xs) (take n out')
+pub meant : (d : Direction) {xs out out' : List ℕ} (n : ℕ) → ExtremePromise d xs out out' (Ok n) → Extreme d (shape_of xs) (take n out')
 meant d n p = subst (Extreme d _) (sym (written d n p)) p.meaning
 
 pub demand_2 : Demand2

@@ -1,5 +1,6 @@
 -- Demand 1 of each call: what is acceptable is not refused, and what is not is,
 -- duly; a refusal leaves the memory; one input has one outcome. Assumes nothing.
+use Rattle.std.specs.Prelude.{Result, Ok, Err, Some, None}
 use mathlib.Core.Path.{◌≡◌, refl, ap, ◌∙◌, subst}
 use mathlib.Core.List.{List}
 use mathlib.Core.Logic.{◌⊎◌, inl, inr}
@@ -7,16 +8,12 @@ use Prim.Native.Nat.{ℕ}
 use lib.IntN.{ℤ}
 use Rattle.answers.specs.Told.{told}
 use Rattle.answers.specs.declared.Refusal.{Refusal}
-use Rattle.answers.specs.declared.Checked.{Checked}
 use Rattle.answers.specs.declared.Fit.{Fit}
 use Rattle.answers.specs.declared.Narrowed.{Narrowed}
 use Rattle.answers.specs.declared.Ran.{Ran}
 use Rattle.answers.specs.declared.TextRan.{TextRan}
-use Rattle.answers.specs.declared.Shown.{Shown}
 use Rattle.answers.specs.declared.Sought.{Sought}
 use Rattle.answers.specs.declared.Swept.{Swept}
-use Rattle.answers.specs.declared.Tray.{Tray}
-use Rattle.answers.specs.declared.Written.{Written}
 use Rattle.answers.proofs.Turns.{OneOf}
 use Rattle.shapes.proofs.Refused.{of_shape_lem}
 use Rattle.extreme_steps.specs.declared.Direction.{Direction}
@@ -93,27 +90,25 @@ refuses c one due answered untouched outcome = record {
 -- ---- a shape
 
 check_shape_answered : Answered check_shape_call
-check_shape_answered xs m m' Checked.Sound p = inl p
-check_shape_answered xs m m' (Checked.Refused q) p = inr (q, refl)
+check_shape_answered xs m m' (Ok _) p = inl p
+check_shape_answered xs m m' (Err q) p = inr (q, refl)
 
 pub check_shape : Refuses check_shape_call
 check_shape = refuses check_shape_call (λ xs m. of_shape_lem) (λ xs m m' q p. p) check_shape_answered (λ xs m m' q p. refl)
     (λ xs m m' m'' r s p q. (check_shape_determined xs r s p q, refl))
 
 fits_answered : Answered fits_shape
-fits_answered g m m' Fit.Fits p = inl p.0
-fits_answered g m m' Fit.Unfit p = inl p.0
-fits_answered g m m' (Fit.Refused q) p = inr (q, refl)
+fits_answered g m m' (Ok Fit.Fits) p = inl p.0
+fits_answered g m m' (Ok Fit.Unfit) p = inl p.0
+fits_answered g m m' (Err q) p = inr (q, refl)
 
 pub fits : Refuses fits_shape
 fits = refuses fits_shape (λ g m. of_shape_lem) (λ g m m' q p. p) fits_answered (λ g m m' q p. refl)
     (λ g m m' m'' r s p q. (fits_determined g.shape g.text r s p q, refl))
 
 find_answered : Answered find_mark
-find_answered g m m' Sought.Nowhere p = inl p.0
-find_answered g m m' (Sought.InSome i j) p = inl p.0
-find_answered g m m' (Sought.InAll i j) p = inl p.0
-find_answered g m m' (Sought.Refused q) p = inr (q, refl)
+find_answered g m m' (Ok s) p = inl p.0
+find_answered g m m' (Err q) p = inr (q, refl)
 
 pub find : Refuses find_mark
 find = refuses find_mark
@@ -123,8 +118,8 @@ find = refuses find_mark
 
 module _ (d : Direction) where
   text_answered : Answered (extreme_text (ExtremePromise d))
-  text_answered xs m m' (Written.Text n) p = inl (p.accepted, p.room)
-  text_answered xs m m' (Written.Refused q) p = inr (q, refl)
+  text_answered xs m m' (Ok n) p = inl (p.accepted, p.room)
+  text_answered xs m m' (Err q) p = inr (q, refl)
 
   pub text : Refuses (extreme_text (ExtremePromise d))
   text = refuses _
@@ -134,9 +129,8 @@ module _ (d : Direction) where
 -- ---- two shapes, or three
 
 sweep_answered : Answered sweep
-sweep_answered s m m' (Swept.Places k) p = inl (p.accepted, p.room)
-sweep_answered s m m' (Swept.Cannot k) p = inl (p.accepted, p.room)
-sweep_answered s m m' (Swept.Refused q) p = inr (q, refl)
+sweep_answered s m m' (Ok a) p = inl (p.accepted, p.room)
+sweep_answered s m m' (Err q) p = inr (q, refl)
 
 pub sweeps : Refuses sweep
 sweeps = refuses sweep
@@ -146,9 +140,9 @@ sweeps = refuses sweep
 
 module _ (R : List ℕ → List ℕ → Type 0) where
   narrow_answered : Answered (narrowing (NarrowPromise R))
-  narrow_answered s m m' Narrowed.Narrow p = inl (p.0.shapes, p.0.room)
-  narrow_answered s m m' Narrowed.None p = inl (p.0.shapes, p.0.room)
-  narrow_answered s m m' (Narrowed.Refused q) p = inr (q, refl)
+  narrow_answered s m m' (Ok Narrowed.Narrow) p = inl (p.0.shapes, p.0.room)
+  narrow_answered s m m' (Ok Narrowed.None) p = inl (p.0.shapes, p.0.room)
+  narrow_answered s m m' (Err q) p = inr (q, refl)
 
   narrow_outcome : OneOutcome (narrowing (NarrowPromise R))
   narrow_outcome s m m' m'' r u p q =
@@ -162,9 +156,9 @@ module _ (R : List ℕ → List ℕ → Type 0) where
       (λ s m m' q p. λ i. record { work = p.1.work_kept i; out_x = p.1.first_kept i; out_y = p.1.second_kept i }) narrow_outcome
 
 join_answered : Answered narrow_join
-join_answered s m m' Narrowed.Narrow p = inl (p.0.shapes, p.0.room)
-join_answered s m m' Narrowed.None p = inl (p.0.shapes, p.0.room)
-join_answered s m m' (Narrowed.Refused q) p = inr (q, refl)
+join_answered s m m' (Ok Narrowed.Narrow) p = inl (p.0.shapes, p.0.room)
+join_answered s m m' (Ok Narrowed.None) p = inl (p.0.shapes, p.0.room)
+join_answered s m m' (Err q) p = inr (q, refl)
 
 join_outcome : OneOutcome narrow_join
 join_outcome s m m' m'' r u p q =
@@ -178,9 +172,9 @@ join = refuses narrow_join
     (λ s m m' q p. λ i. record { work = p.1.work_kept i; out_x = p.1.first_kept i; out_y = p.1.second_kept i; out_z = p.1.third_kept i }) join_outcome
 
 common_answered : Answered common_text_call
-common_answered s m m' (Shown.Text n) p = inl (p.0.shapes, p.0.room)
-common_answered s m m' Shown.None p = inl (p.0.shapes, p.0.room)
-common_answered s m m' (Shown.Refused q) p = inr (q, refl)
+common_answered s m m' (Ok (Some n)) p = inl (p.0.shapes, p.0.room)
+common_answered s m m' (Ok None) p = inl (p.0.shapes, p.0.room)
+common_answered s m m' (Err q) p = inr (q, refl)
 
 common_outcome : OneOutcome common_text_call
 common_outcome s m m' m'' r u p q =
@@ -195,8 +189,8 @@ common_text = refuses common_text_call
 -- ---- a tray
 
 tray_answered : Answered sweep_tray
-tray_answered g m m' Tray.Judged p = inl p.0
-tray_answered g m m' (Tray.Refused q) p = inr (q, refl)
+tray_answered g m m' (Ok _) p = inl p.0
+tray_answered g m m' (Err q) p = inr (q, refl)
 
 pub tray : Refuses sweep_tray
 tray = refuses sweep_tray
@@ -219,10 +213,10 @@ tray_pair = refuses judge_pair
 book_answered : Answered run_book_call
 book_answered g m m' r p = go r.texts r.checked p
   where
-    go : (row : List TextRan) (x : Checked) → PromiseFor g.counts m.blocks g.rules m.work m'.blocks m'.work row x
+    go : (row : List TextRan) (x : Result Unit Refusal) → PromiseFor g.counts m.blocks g.rules m.work m'.blocks m'.work row x
         → (run_book_call.checked g m).good ⊎ ((q : Refusal) × (◌≡◌ {A = Ran} (record { checked = x; texts = row }) (refused_run q)))
-    go row Checked.Sound p = inl p.0
-    go row (Checked.Refused q) p = inr (q, λ i. record { checked = Checked.Refused q; texts = p.3 i })
+    go row (Ok _) p = inl p.0
+    go row (Err q) p = inr (q, λ i. record { checked = Err q; texts = p.3 i })
 
 book_outcome : OneOutcome run_book_call
 book_outcome g m m' m'' r s p q =
@@ -237,11 +231,11 @@ run_book = refuses run_book_call
 pub file_one : (file : List ℕ) (work room : ℕ) → OneOf (in_turn (FileAcceptable file work room) (run_turns file work room))
 file_one file work room = record { one = λ p q. run_refused_one p q; not = λ p a. run_file_not a.writing a.accepted a.enough p }
 
-file_answered : (file : List ℕ) (work : ℕ) (report report' : List ℕ) (r : Written) → FileAnswer file work report report' r
-    → FileAcceptable file work (length report) ⊎ ((q : Refusal) × (r ≡ Written.Refused q))
-file_answered file work report report' (Written.Text m) p =
+file_answered : (file : List ℕ) (work : ℕ) (report report' : List ℕ) (r : Result ℕ Refusal) → FileAnswer file work report report' r
+    → FileAcceptable file work (length report) ⊎ ((q : Refusal) × (r ≡ Err q))
+file_answered file work report report' (Ok m) p =
     inl (record { its_book = p.book; writing = p.accepted; accepted = p.written.accepted; enough = p.written.room })
-file_answered file work report report' (Written.Refused q) p = inr (q, refl)
+file_answered file work report report' (Err q) p = inr (q, refl)
 
 pub run_file : Refuses run_file_call
 run_file = refuses run_file_call (λ file m. file_one file 63001 (length m)) (λ file m m' q p. p.0) (λ file m m' r p. file_answered file 63001 m m' r p)
@@ -264,7 +258,7 @@ run_host = record {
 }
   where
     go : (file : List ℕ) (m m' : HostMemory) → ((run_host_call.checked file m).good → ⊥) → (z : ℤ) (p : run_host_call.Promise file m m' z)
-        → (run_host_call.checked file m).good ⊎ ((q : Refusal) × (p.answer ≡ Written.Refused q))
+        → (run_host_call.checked file m).good ⊎ ((q : Refusal) × (p.answer ≡ Err q))
         → (q : Refusal) × (z ≡ negated q) × (run_host_call.checked file m).due (told q)
     go file m m' n z p (inl a) = absurd (n a)
     go file m m' n z p (inr (q, e)) = (q, p.number ∙ ap handed e, (subst (FileAnswer file (length m.work) m.report m'.report) e p.runs.0).0)

@@ -1,4 +1,6 @@
 -- Request 10 of document 02 holds: each field by citation. Assumes nothing.
+use Rattle.answers.specs.declared.Refusal.{Refusal}
+use Rattle.std.specs.Prelude.{Result, Ok, Err}
 use mathlib.Core.Path.{◌≡◌, refl, sym, ap, ◌∙◌, subst}
 use mathlib.Core.List.{List, []}
 use Prim.Native.Nat.{ℕ, ◌+◌, ◌*◌, ◌/◌, ◌%◌, ◌^◌, ◌<◌}
@@ -9,7 +11,6 @@ use lib.ListN.{length, get_or}
 use Rattle.answers.specs.Told.{Told, tell, told}
 use Rattle.answers.specs.Turns.{here, later}
 use Rattle.answers.specs.declared.TextRan.{TextRan}
-use Rattle.answers.specs.declared.Written.{Written}
 use Rattle.answers.proofs.Turns.{lacks}
 use Rattle.plain.specs.All.{All}
 use Rattle.plain.proofs.All.{all_map, all_at, all_take}
@@ -91,10 +92,10 @@ nine_only (later _ (here (its_book a (here p)))) f = absurd (book_other 9 (omega
 nine_only (later _ (here (its_book a (later d (here p))))) f = let h = number_of p.tells in absurd (omega arith)
 
 -- a report without room
-answers_5 : {book : List ℕ} {b : Book} (m m' : HostMemory) (r : Written) → FileAccepted book b → AcceptedWith (given_of b) (lent_blocks b) (length m.work)
+answers_5 : {book : List ℕ} {b : Book} (m m' : HostMemory) (r : Result ℕ Refusal) → FileAccepted book b → AcceptedWith (given_of b) (lent_blocks b) (length m.work)
     → length m.report < file_limit → LentPromise book m.report m.work m'.report m'.work r → handed r ≡ neg_ℤ (pos 5)
-answers_5 m m' (Written.Text n) a g h p = absurd (let room = p.0.written.room in omega arith)
-answers_5 m m' (Written.Refused q) a g h p =
+answers_5 m m' (Ok n) a g h p = absurd (let room = p.0.written.room in omega arith)
+answers_5 m m' (Err q) a g h p =
     ap (λ (t : Told). neg_ℤ (pos t.number)) (run_refused_one p.0.0 (refused_book a (later g (here (lacks (λ room. omega arith))))))
 
 -- ---- headings

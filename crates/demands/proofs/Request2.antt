@@ -1,4 +1,6 @@
 -- Request 2 of document 02 holds: each field by citation. Assumes nothing.
+use Rattle.answers.specs.declared.Refusal.{Refusal}
+use Rattle.std.specs.Prelude.{Result, Ok, Err, Option, Some, None}
 use mathlib.Core.Path.{◌≡◌, refl, sym, ap, ◌∙◌, subst}
 use mathlib.Core.List.{List, [], ◌∷◌}
 use Prim.Native.Nat.{ℕ, ◌≤◌}
@@ -6,8 +8,6 @@ use lib.ListN.{length, take, drop}
 use lib.Seq.{take_at, drop_at}
 use native.Mathlib.Omega.{arith}
 use Rattle.answers.specs.declared.Narrowed.{Narrowed}
-use Rattle.answers.specs.declared.Shown.{Shown}
-use Rattle.answers.specs.declared.Written.{Written}
 use Rattle.extreme_steps.specs.declared.Direction.TheVariants.{Least}
 use Rattle.shapes.specs.Shape.{Fits}
 use Rattle.shapes.specs.Lent.{shape_of}
@@ -25,7 +25,7 @@ use Rattle.demands.specs.Request2.{FitsBoth, twice, Request2}
 use Rattle.demands.proofs.Demands.{demand_2, written}
 use Rattle.demands.proofs.Narrowed.{two_texts, of_two, two_kept}
 
-module _ {s : Two} {m m' : CommonMemory} (n : ℕ) (p : common_text_call.Promise s m m' (Shown.Text n)) where
+module _ {s : Two} {m m' : CommonMemory} (n : ℕ) (p : common_text_call.Promise s m m' (Ok (Some n))) where
   shown : take n m'.out ≡ p.1.text
   shown = ap (take n) p.1.bytes ∙ take_at p.1.text (drop n m.out) n (sym p.1.length_is)
 
@@ -50,25 +50,25 @@ module _ {s : Two} {m m' : CommonMemory} (n : ℕ) (p : common_text_call.Promise
 -- ---- beside narrowing
 
 module _ (s : Two) (m m' : CommonMemory) (k k' : NarrowMemory) where
-  none_there : (u : Narrowed) → common_text_call.Promise s m m' Shown.None → narrow_exact.Promise s k k' u → HasRoom s k → u ≡ Narrowed.None
-  none_there Narrowed.Narrow p q room =
+  none_there : (u : Result Narrowed Refusal) → common_text_call.Promise s m m' (Ok None) → narrow_exact.Promise s k k' u → HasRoom s k → u ≡ (Ok Narrowed.None)
+  none_there (Ok Narrowed.Narrow) p q room =
       let t = of_two Same (demand_2.exact.none_complete q) in
       absurd (p.1.nothing.none t.1 (subst (Fits (shape_of s.x)) t.4 t.2) t.3)
-  none_there Narrowed.None p q room = refl
-  none_there (Narrowed.Refused r) p q room = absurd (narrow_not q.0 p.0.shapes room)
+  none_there (Ok Narrowed.None) p q room = refl
+  none_there (Err r) p q room = absurd (narrow_not q.0 p.0.shapes room)
 
-  none_here : (r : Shown) → common_text_call.Promise s m m' r → narrow_exact.Promise s k k' Narrowed.None → ShowRoom (length m.work) (length m.out)
-      → r ≡ Shown.None
-  none_here (Shown.Text n) p q room =
+  none_here : (r : Result (Option ℕ) Refusal) → common_text_call.Promise s m m' r → narrow_exact.Promise s k k' (Ok Narrowed.None) → ShowRoom (length m.work) (length m.out)
+      → r ≡ (Ok None)
+  none_here (Ok (Some n)) p q room =
       let t = shown_earliest n p in
       absurd (demand_2.exact.none_sound q (two_texts Same (shape_of s.x) (shape_of s.y) _ _ t.fits_first t.fits_second refl))
-  none_here Shown.None p q room = refl
-  none_here (Shown.Refused r) p q room = absurd (show_refused_not p.0 q.0.shapes room)
+  none_here (Ok None) p q room = refl
+  none_here (Err r) p q room = absurd (show_refused_not p.0 q.0.shapes room)
 
 -- ---- of a shape and itself
 
-same_least : {xs out out' : List ℕ} {m m' : CommonMemory} (n k : ℕ) → common_text_call.Promise (twice xs) m m' (Shown.Text n)
-    → least_text.Promise xs out out' (Written.Text k)
+same_least : {xs out out' : List ℕ} {m m' : CommonMemory} (n k : ℕ) → common_text_call.Promise (twice xs) m m' (Ok (Some n))
+    → least_text.Promise xs out out' (Ok k)
     → (n ≡ k) × (take n m'.out ≡ take k out')
 same_least {out' = out'} {m' = m'} n k p q =
     let least = demand_2.least k q in
@@ -76,7 +76,7 @@ same_least {out' = out'} {m' = m'} n k p q =
     earliest_one (shown_earliest n p) (record { fits_first = least.0; fits_second = least.0; no_earlier = λ u f g. least.1 u f }) in
     (sym (shown_length n p) ∙ ap length same ∙ ap length (written Least k q) ∙ sym q.length_is, same)
 
-same_some : {xs : List ℕ} {m m' : CommonMemory} → common_text_call.Promise (twice xs) m m' Shown.None → ⊥
+same_some : {xs : List ℕ} {m m' : CommonMemory} → common_text_call.Promise (twice xs) m m' (Ok None) → ⊥
 same_some {xs} p =
     let f = some_filling p.0.shapes.first.sound in
     let fits : Fits (shape_of xs) _ = record { runs = f.0; filling = f.1; joined = refl } in

@@ -1,4 +1,6 @@
 -- Request 3 of document 02 holds: each field by citation. Assumes nothing.
+use Rattle.answers.specs.declared.Refusal.{Refusal}
+use Rattle.std.specs.Prelude.{Result, Ok, Err}
 use mathlib.Core.Path.{◌≡◌, refl, sym, ap, ap₂, ◌∙◌, subst}
 use mathlib.Core.List.{List, [], ◌∷◌, ◌++◌, map, append_assoc, append-nil}
 use Prim.Native.Nat.{ℕ, ◌+◌, ◌<◌}
@@ -69,7 +71,7 @@ rule_first {counts} {blocks} {rules} i r d =
 
 -- ---- from what the first shape was left
 
-from_first : {s : Three} {m m' n n' : JoinMemory} → narrow_join.Promise s m m' Narrowed.Narrow → narrow_join.Promise (first_left s m') n n' Narrowed.Narrow
+from_first : {s : Three} {m m' n n' : JoinMemory} → narrow_join.Promise s m m' (Ok Narrowed.Narrow) → narrow_join.Promise (first_left s m') n n' (Ok Narrowed.Narrow)
     → (new_numbers s.y n'.out_y ≡ new_numbers s.y m'.out_y) × (new_numbers s.z n'.out_z ≡ new_numbers s.z m'.out_z)
 from_first {s} {m' = m'} {n' = n'} p q =
     let k = p.1 in
@@ -94,23 +96,23 @@ from_first {s} {m' = m'} {n' = n'} p q =
 -- ---- beside equality
 
 module _ (s : Three) (m m' : JoinMemory) (n n' : NarrowMemory) where
-  none_there : (u : Narrowed) → narrow_join.Promise s m m' Narrowed.None → narrow_exact.Promise (beside s) n n' u
-      → (narrow_exact.checked (beside s) n).good → u ≡ Narrowed.None
-  none_there Narrowed.Narrow p q a =
+  none_there : (u : Result Narrowed Refusal) → narrow_join.Promise s m m' (Ok Narrowed.None) → narrow_exact.Promise (beside s) n n' u
+      → (narrow_exact.checked (beside s) n).good → u ≡ (Ok Narrowed.None)
+  none_there (Ok Narrowed.Narrow) p q a =
       absurd (hull_or_none q.1.hull
       (line_pairs p.0.shapes (None (Pairs Same (length (shape_of s.x)))) (pair_none (shape_of s.x) (shape_of s.y) (shape_of s.z) p.1.none)))
-  none_there Narrowed.None p q a = refl
-  none_there (Narrowed.Refused r) p q a = absurd (narrow_not q.0 a.0 a.1)
+  none_there (Ok Narrowed.None) p q a = refl
+  none_there (Err r) p q a = absurd (narrow_not q.0 a.0 a.1)
 
-  none_here : (r : Narrowed) → narrow_join.Promise s m m' r → narrow_exact.Promise (beside s) n n' Narrowed.None → (narrow_join.checked s m).good
-      → r ≡ Narrowed.None
-  none_here Narrowed.Narrow p q a =
+  none_here : (r : Result Narrowed Refusal) → narrow_join.Promise s m m' r → narrow_exact.Promise (beside s) n n' (Ok Narrowed.None) → (narrow_join.checked s m).good
+      → r ≡ (Ok Narrowed.None)
+  none_here (Ok Narrowed.Narrow) p q a =
       absurd (hull_or_none (join_pair p.0.shapes (pair_hull (shape_of s.x) (shape_of s.y) (shape_of s.z) p.1.hull)) q.1.none)
-  none_here Narrowed.None p q a = refl
-  none_here (Narrowed.Refused r) p q a = absurd (join_refused_not p.0 a.0 a.1)
+  none_here (Ok Narrowed.None) p q a = refl
+  none_here (Err r) p q a = absurd (join_refused_not p.0 a.0 a.1)
 
-same_numbers : {s : Three} {m m' : JoinMemory} {n n' : NarrowMemory} → narrow_join.Promise s m m' Narrowed.Narrow
-    → narrow_exact.Promise (beside s) n n' Narrowed.Narrow
+same_numbers : {s : Three} {m m' : JoinMemory} {n n' : NarrowMemory} → narrow_join.Promise s m m' (Ok Narrowed.Narrow)
+    → narrow_exact.Promise (beside s) n n' (Ok Narrowed.Narrow)
     → (new_numbers s.x m'.out_x ≡ new_numbers s.x n'.out_x)
     × (new_numbers s.y m'.out_y ++ new_numbers s.z m'.out_z ≡ new_numbers (s.y ++ s.z) n'.out_y)
 same_numbers {s} {m' = m'} {n' = n'} p q =

@@ -1,4 +1,5 @@
 -- Request 4 of document 02 holds: each field by citation. Assumes nothing.
+use Rattle.std.specs.Prelude.{Result, Ok, Err}
 use mathlib.Core.Path.{◌≡◌, sym, ap, ◌∙◌, subst}
 use mathlib.Core.Logic.{◌⊎◌, inl, inr}
 use Prim.Native.Nat.{ℕ, ◌<◌}
@@ -6,7 +7,6 @@ use lib.IntN.{ℤ, pos}
 use lib.ListN.{length}
 use Rattle.answers.specs.declared.Refusal.{Refusal}
 use Rattle.answers.specs.declared.Refusal.TheVariants.{Output}
-use Rattle.answers.specs.declared.Written.{Written}
 use Rattle.file_reports.specs.Report.{report_of}
 use Rattle.file_runs.proofs.Determined.{text_report}
 use Rattle.file_runs.proofs.Ends.{file_ends_one}
@@ -15,9 +15,9 @@ use Rattle.host_calls.specs.Host.{negated, handed}
 use Rattle.host_calls.proofs.Numbers.{not_count, host_written, host_refused}
 use Rattle.demands.specs.Request4.{Request4}
 
-either : (x : Written) (z : ℤ) → z ≡ handed x → ((n : ℕ) × (z ≡ pos n)) ⊎ ((q : Refusal) × (z ≡ negated q))
-either (Written.Text n) z e = inl (n, e)
-either (Written.Refused q) z e = inr (q, e)
+either : (x : Result ℕ Refusal) (z : ℤ) → z ≡ handed x → ((n : ℕ) × (z ≡ pos n)) ⊎ ((q : Refusal) × (z ≡ negated q))
+either (Ok n) z e = inl (n, e)
+either (Err q) z e = inr (q, e)
 
 pub request_4 : Request4
 request_4 = record {

@@ -1,4 +1,6 @@
 -- Request 9 of document 02 holds: each field by citation. Assumes nothing.
+use Rattle.answers.specs.declared.Refusal.{Refusal}
+use Rattle.std.specs.Prelude.{Result, Ok, Err}
 use mathlib.Core.Path.{◌≡◌, refl, sym, ap, ◌∙◌, subst, subst₂}
 use mathlib.Core.List.{List, ◌++◌}
 use Prim.Native.Nat.{ℕ}
@@ -31,7 +33,7 @@ use Rattle.demands.proofs.Cannot.{case_no_ground}
 
 -- ---- what is left
 
-module _ {s : Two} {m m' : NarrowMemory} (p : narrow_any_case.Promise s m m' Narrowed.Narrow) where
+module _ {s : Two} {m m' : NarrowMemory} (p : narrow_any_case.Promise s m m' (Ok Narrowed.Narrow)) where
   abbrev a : PairAccepted s.x s.y
   a = p.0.shapes
 
@@ -43,7 +45,7 @@ module _ {s : Two} {m m' : NarrowMemory} (p : narrow_any_case.Promise s m m' Nar
       )
 
   -- as of the shapes with both cases, narrowed to the letter
-  blocks_follow : {w : Two} {n n' : NarrowMemory} → WideBoth s w → narrow_exact.Promise w n n' Narrowed.Narrow
+  blocks_follow : {w : Two} {n n' : NarrowMemory} → WideBoth s w → narrow_exact.Promise w n n' (Ok Narrowed.Narrow)
       → Cuts (shape_of s.x) (new_shape w.x n'.out_x) (new_shape s.x m'.out_x)
       × Cuts (shape_of s.y) (new_shape w.y n'.out_y) (new_shape s.y m'.out_y)
   blocks_follow wide q =
@@ -60,9 +62,9 @@ module _ (s : Two) {W : List Block} (x : Wide (shape_of s.x) W) (y : Wide (shape
   stay : Hull (Pairs AnyCase (length (shape_of s.x))) (shape_of s.x ++ shape_of s.y) (shape_of s.x ++ shape_of s.y)
   stay = both_stay x y a.first.sound
 
-  both_narrow : (m m' : NarrowMemory) (r : Narrowed) → HasRoom s m → narrow_any_case.Promise s m m' r
-      → (r ≡ Narrowed.Narrow) × (new_shape s.x m'.out_x ≡ shape_of s.x) × (new_shape s.y m'.out_y ≡ shape_of s.y)
-  both_narrow m m' Narrowed.Narrow room p =
+  both_narrow : (m m' : NarrowMemory) (r : Result Narrowed Refusal) → HasRoom s m → narrow_any_case.Promise s m m' r
+      → (r ≡ (Ok Narrowed.Narrow)) × (new_shape s.x m'.out_x ≡ shape_of s.x) × (new_shape s.y m'.out_y ≡ shape_of s.y)
+  both_narrow m m' (Ok Narrowed.Narrow) room p =
       let n = p.1 in
       let same = one_hull n.hull stay in
       let size = length (shape_of s.x) in (
@@ -70,8 +72,8 @@ module _ (s : Two) {W : List Block} (x : Wide (shape_of s.x) W) (y : Wide (shape
         left_first n a ∙ sym (take_at n.first n.second size n.size) ∙ ap (take size) same ∙ take_at (shape_of s.x) (shape_of s.y) size refl,
         left_second n a ∙ sym (drop_at n.first n.second size n.size) ∙ ap (drop size) same ∙ drop_at (shape_of s.x) (shape_of s.y) size refl,
       )
-  both_narrow m m' Narrowed.None room p = absurd (hull_or_none stay p.1.none)
-  both_narrow m m' (Narrowed.Refused q) room p = absurd (narrow_not p.0 a room)
+  both_narrow m m' (Ok Narrowed.None) room p = absurd (hull_or_none stay p.1.none)
+  both_narrow m m' (Err q) room p = absurd (narrow_not p.0 a room)
 
 pub request_9 : Request9
 unfolding relation_of

@@ -1,19 +1,15 @@
 -- Each call of `dashed` as a value: what is lent to be read, what is lent to be written, what is answered, what is
 -- promised of them (`dashed`, Promises.antt), and when the call is refused. What is lent to several calls, or to one
 -- call in several pieces, has a name here and a name for each piece.
-use Rattle.std.specs.Prelude.{◌≡◌, List, ℕ, ◌*◌, ◌≤◌, length, take}
+use Rattle.std.specs.Prelude.{◌≡◌, List, ℕ, ◌*◌, ◌≤◌, length, take, Result, Err}
 use Rattle.answers.specs.Told.{Told, told}
 use Rattle.answers.specs.Turns.{Turn, in_turn}
 use Rattle.answers.specs.declared.Refusal.{Refusal}
 use Rattle.answers.specs.declared.AnswerRecord.{AnswerRecord}
-use Rattle.answers.specs.declared.Checked.{Checked}
 use Rattle.answers.specs.declared.Fit.{Fit}
 use Rattle.answers.specs.declared.Narrowed.{Narrowed}
-use Rattle.answers.specs.declared.Shown.{Shown}
 use Rattle.answers.specs.declared.Sought.{Sought}
 use Rattle.answers.specs.declared.Swept.{Swept}
-use Rattle.answers.specs.declared.Tray.{Tray}
-use Rattle.answers.specs.declared.Written.{Written}
 use Rattle.shapes.specs.Shape.{Block, block_count}
 use Rattle.shapes.specs.Lent.{shape_of, words_of, Accepted, of_shape}
 use Rattle.extremes.specs.Extreme.{text_turns}
@@ -61,18 +57,18 @@ CallTells c g m t = (m' : c.Memory) (r : c.Answer) → c.Promise g m m' r → (q
 -- ---- a shape
 
 abbrev pub check_shape_call : Call
-check_shape_call = call (List ℕ) Unit Checked.Refused (λ shape m m'. CheckShape shape) (λ shape m. of_shape 1 shape)
+check_shape_call = call (List ℕ) Unit Err (λ shape m m'. CheckShape shape) (λ shape m. of_shape 1 shape)
 
 pub record ShapeAndText : Type 0 where
   pub shape : List ℕ
   pub text : List ℕ
 
 abbrev pub fits_shape : Call
-fits_shape = call ShapeAndText Unit Fit.Refused (λ g m m'. FitsShape g.shape g.text) (λ g m. of_shape 1 g.shape)
+fits_shape = call ShapeAndText Unit Err (λ g m m'. FitsShape g.shape g.text) (λ g m. of_shape 1 g.shape)
 
 -- the memory is the output
-abbrev pub extreme_text : (List ℕ → List ℕ → List ℕ → Written → Type 0) → Call
-extreme_text Promise = call (List ℕ) (List ℕ) Written.Refused Promise
+abbrev pub extreme_text : (List ℕ → List ℕ → List ℕ → Result ℕ Refusal → Type 0) → Call
+extreme_text Promise = call (List ℕ) (List ℕ) Err Promise
     (λ shape out. in_turn (Accepted shape × (250 ≤ length out)) (text_turns shape (length out)))
 
 abbrev pub least_text : Call
@@ -86,7 +82,7 @@ pub record ShapeAndMark : Type 0 where
   pub mark : List ℕ
 
 abbrev pub find_mark : Call
-find_mark = call ShapeAndMark Unit Sought.Refused
+find_mark = call ShapeAndMark Unit Err
     (λ g m m'. FindMark g.shape g.mark)
     (λ g m. in_turn (Asked g.shape g.mark) (find_turns g.shape g.mark))
 
@@ -98,7 +94,7 @@ pub record Two : Type 0 where
 
 -- the memory is the output
 abbrev pub sweep : Call
-sweep = call Two (List ℕ) Swept.Refused
+sweep = call Two (List ℕ) Err
     (λ s. Sweep s.x s.y)
     (λ s out. in_turn (PairAccepted s.x s.y × (2 * length (shape_of s.x) ≤ length out)) (sweep_turns s.x s.y (length out)))
 
@@ -114,8 +110,8 @@ new_numbers xs out = take (length xs) out
 abbrev pub new_shape : List ℕ → List ℕ → List Block
 new_shape xs out = shape_of (new_numbers xs out)
 
-abbrev pub narrowing : (List ℕ → List ℕ → List ℕ → List ℕ → List ℕ → List ℕ → List ℕ → List ℕ → Narrowed → Type 0) → Call
-narrowing Promise = call Two NarrowMemory Narrowed.Refused
+abbrev pub narrowing : (List ℕ → List ℕ → List ℕ → List ℕ → List ℕ → List ℕ → List ℕ → List ℕ → Result Narrowed Refusal → Type 0) → Call
+narrowing Promise = call Two NarrowMemory Err
     (λ s m m'. Promise s.x s.y m.work m.out_x m.out_y m'.work m'.out_x m'.out_y)
     (λ s m. of_narrowing s.x s.y (length m.work) (length m.out_x) (length m.out_y))
 
@@ -150,7 +146,7 @@ pub record JoinMemory : Type 0 where
   pub out_z : List ℕ
 
 abbrev pub narrow_join : Call
-narrow_join = call Three JoinMemory Narrowed.Refused
+narrow_join = call Three JoinMemory Err
     (λ s m m'. NarrowJoin s.x s.y s.z m.work m.out_x m.out_y m.out_z m'.work m'.out_x m'.out_y m'.out_z)
     (λ s m. of_join s.x s.y s.z (length m.work) (length m.out_x) (length m.out_y) (length m.out_z))
 
@@ -159,7 +155,7 @@ pub record CommonMemory : Type 0 where
   pub out : List ℕ
 
 abbrev pub common_text_call : Call
-common_text_call = call Two CommonMemory Shown.Refused
+common_text_call = call Two CommonMemory Err
     (λ s m m'. CommonText s.x s.y m.work m.out m'.work m'.out)
     (λ s m. of_showing s.x s.y (length m.work) (length m.out))
 
@@ -171,7 +167,7 @@ pub record BlocksAndPairs : Type 0 where
 
 -- the memory is the row of answer records
 abbrev pub sweep_tray : Call
-sweep_tray = call BlocksAndPairs (List AnswerRecord) Tray.Refused
+sweep_tray = call BlocksAndPairs (List AnswerRecord) Err
     (λ g. SweepTray g.blocks g.pairs)
     (λ g row. in_turn (TrayAccepted (length g.pairs) (length row)) (tray_turns (length g.pairs) (length row)))
 
@@ -181,7 +177,7 @@ pub record BlocksAndPair : Type 0 where
 
 -- one pair of a tray, judged into its own record
 abbrev pub judge_pair : Call
-judge_pair = call BlocksAndPair Unit (λ q. recorded (Swept.Refused q))
+judge_pair = call BlocksAndPair Unit (λ q. recorded (Err q))
     (λ g m m'. Judged g.blocks g.pair)
     (λ g m. in_turn (RecordAccepted g.blocks g.pair) (record_turns g.blocks g.pair))
 
@@ -235,7 +231,7 @@ pub record FileAcceptable (file : List ℕ) (work room : ℕ) : Type 0 where
 
 -- the memory is the report
 abbrev pub run_file_call : Call
-run_file_call = call (List ℕ) (List ℕ) Written.Refused RunFile
+run_file_call = call (List ℕ) (List ℕ) Err RunFile
     (λ file report. in_turn (FileAcceptable file 63001 (length report)) (run_turns file 63001 (length report)))
 
 pub record HostMemory : Type 0 where

@@ -1,7 +1,8 @@
 -- Demand 3 speaks of rules applied singly, in any order: here each application is a call of
 -- the library, on lent numbers. The state is the numbers of all texts' blocks, end to end. A
 -- rule names two texts, or three if it is a join, and its kind the call that narrows them.
-use Rattle.std.specs.Prelude.{◌≡◌, List, [], ◌∷◌, ℕ, zero, suc, ◌*◌, ◌<◌, take}
+use Rattle.answers.specs.declared.Refusal.{Refusal}
+use Rattle.std.specs.Prelude.{◌≡◌, List, [], ◌∷◌, ℕ, zero, suc, ◌*◌, ◌<◌, take, Result, Ok}
 use Rattle.answers.specs.declared.Ended.{Ended}
 use Rattle.answers.specs.declared.Narrowed.{Narrowed}
 use Rattle.answers.specs.declared.Narrowed.TheVariants.{Narrow, None}
@@ -23,7 +24,7 @@ use Rattle.demands.specs.Call.{Two, NarrowMemory, narrow_padded, narrow_exact, n
 
 -- The promise of the call on two texts that a rule's kind names: 0 equal once trailing blanks are dropped, 1 a at most
 -- b, 2 a before b, 4 equal to the letter, 5 equal but for letter case.
-abbrev pub CallOf : ℕ → Two → NarrowMemory → NarrowMemory → Narrowed → Type 0
+abbrev pub CallOf : ℕ → Two → NarrowMemory → NarrowMemory → Result Narrowed Refusal → Type 0
 CallOf zero = narrow_padded.Promise
 CallOf (suc zero) = narrow_at_most.Promise
 CallOf (suc (suc zero)) = narrow_before.Promise
@@ -41,7 +42,7 @@ three_of counts t xs = record { x = numbers_in counts xs t.a; y = numbers_in cou
 
 -- A call for the rule t, on the numbers of its texts among xs: the memory
 -- lent, the same as handed back, and any outcome that the promise permits.
-pub data RuleCall (counts : List ℕ) (t : Rule) (xs : List ℕ) (answer : Narrowed) : Type 0 where
+pub data RuleCall (counts : List ℕ) (t : Rule) (xs : List ℕ) (answer : Result Narrowed Refusal) : Type 0 where
   on_two : (m m' : NarrowMemory) → CallOf t.kind (two_of counts t xs) m m' answer → RuleCall counts t xs answer
   on_three : t.kind ≡ join_kind → (m m' : JoinMemory) → narrow_join.Promise (three_of counts t xs) m m' answer → RuleCall counts t xs answer
 
@@ -50,14 +51,14 @@ abbrev pub new_of : List ℕ → ℕ → List ℕ → List ℕ
 new_of counts k out = take (count_of counts k * block_size) out
 
 -- The new shapes are laid back over the old ones.
-unfoldable pub after : (counts : List ℕ) (t : Rule) (xs : List ℕ) → RuleCall counts t xs Narrow → List ℕ
+unfoldable pub after : (counts : List ℕ) (t : Rule) (xs : List ℕ) → RuleCall counts t xs (Ok Narrow) → List ℕ
 after counts t xs (on_two m m' p) = laid_over counts (t.a ∷ t.b ∷ []) (new_of counts t.a m'.out_x ∷ new_of counts t.b m'.out_y ∷ []) xs
 after counts t xs (on_three e m m' p) =
     laid_over counts (t.a ∷ t.b ∷ t.c ∷ []) (new_of counts t.a m'.out_x ∷ new_of counts t.b m'.out_y ∷ new_of counts t.c m'.out_z ∷ []) xs
 
 -- The call for the rule t answers with its shapes as they are: laid back, they change no number.
 pub record Leaves (counts : List ℕ) (t : Rule) (xs : List ℕ) : Type 0 where
-  pub call : RuleCall counts t xs Narrow
+  pub call : RuleCall counts t xs (Ok Narrow)
   pub same : after counts t xs call ≡ xs
 
 -- Every rule's call leaves the numbers xs.
@@ -72,9 +73,9 @@ pub data Ending : Type 0 where
 -- A sequence of calls from the numbers xs, for the rules with these
 -- numbers, from 0, in this order: any rules, each as often as one likes.
 pub data Calls (g : CountsAndRules) : List ℕ → List ℕ → Ending → Type 0 where
-  says_none : {xs : List ℕ} (j : ℕ) → j < rule_count g.rules → RuleCall g.counts (rule_at g.rules j) xs None → Calls g xs (j ∷ []) none
+  says_none : {xs : List ℕ} (j : ℕ) → j < rule_count g.rules → RuleCall g.counts (rule_at g.rules j) xs (Ok None) → Calls g xs (j ∷ []) none
   rests : {xs : List ℕ} → LeftAlone g xs → Calls g xs [] (numbers xs)
-  goes_on : {xs js : List ℕ} {e : Ending} (j : ℕ) → j < rule_count g.rules → (c : RuleCall g.counts (rule_at g.rules j) xs Narrow)
+  goes_on : {xs js : List ℕ} {e : Ending} (j : ℕ) → j < rule_count g.rules → (c : RuleCall g.counts (rule_at g.rules j) xs (Ok Narrow))
       → Calls g (after g.counts (rule_at g.rules j) xs c) js e → Calls g xs (j ∷ js) e
 
 -- In book order, round after round, from rule k of n on.

@@ -1,7 +1,7 @@
 -- The user's three demands, a field for each sentence, over the calls (Call.antt) and what they promise (`dashed`,
 -- Promises.antt). That every call ends on every input and leaves no duty to its caller is what it means that the calls
 -- are proved with no `requires`; it is no statement of this file.
-use Rattle.std.specs.Prelude.{◌≡◌, List, [], ◌∷◌, ◌++◌, map, ◌↔◌, ℕ, ◌<◌, length, get_or, take}
+use Rattle.std.specs.Prelude.{◌≡◌, List, [], ◌∷◌, ◌++◌, map, ◌↔◌, ℕ, ◌<◌, length, get_or, take, Result, Ok}
 use Rattle.answers.specs.Told.{Told, told}
 use Rattle.answers.specs.declared.Refusal.{Refusal}
 use Rattle.answers.specs.declared.Ended.{Ended}
@@ -9,7 +9,6 @@ use Rattle.answers.specs.declared.Fit.{Fit}
 use Rattle.answers.specs.declared.Narrowed.{Narrowed}
 use Rattle.answers.specs.declared.Swept.{Swept}
 use Rattle.answers.specs.declared.TextRan.{TextRan}
-use Rattle.answers.specs.declared.Written.{Written}
 use Rattle.shapes.specs.Shape.{Block, Filling, text_of, Fits, no_block}
 use Rattle.shapes.specs.Lent.{Numbers, shape_of}
 use Rattle.texts.specs.Order.{AtMost, Before}
@@ -95,17 +94,17 @@ pub record KeepsExactly (R : List (List ℕ) → Type 0) (S S' : List (List Bloc
       → Tight (λ r. (f : Fillings R S) × (get_or (get_or f.fillings i []) j [] ≡ r)) (get_or (get_or S' i []) j no_block)
 
 -- Of a call that narrows shapes: those entered, and those that are left in the memory handed back.
-pub record Exact (R : List (List ℕ) → Type 0) {Given Memory : Type 0} (Promise : Given → Memory → Memory → Narrowed → Type 0)
+pub record Exact (R : List (List ℕ) → Type 0) {Given Memory : Type 0} (Promise : Given → Memory → Memory → Result Narrowed Refusal → Type 0)
     (entered : Given → List (List Block)) (left : Given → Memory → List (List Block)) : Type 0 where
   -- "'none' comes exactly if no pair of texts satisfies the rule"
-  pub none_sound : {g : Given} {m m' : Memory} → Promise g m m' Narrowed.None → TextsFor R (entered g) → ⊥
-  pub none_complete : {g : Given} {m m' : Memory} → Promise g m m' Narrowed.Narrow → TextsFor R (entered g)
+  pub none_sound : {g : Given} {m m' : Memory} → Promise g m m' (Ok Narrowed.None) → TextsFor R (entered g) → ⊥
+  pub none_complete : {g : Given} {m m' : Memory} → Promise g m m' (Ok Narrowed.Narrow) → TextsFor R (entered g)
   -- "otherwise each block keeps exactly the characters, and the least
   -- and greatest count, that some satisfying pair of fillings gives it"
-  pub keeps : {g : Given} {m m' : Memory} → Promise g m m' Narrowed.Narrow → KeepsExactly R (entered g) (left g m')
+  pub keeps : {g : Given} {m m' : Memory} → Promise g m m' (Ok Narrowed.Narrow) → KeepsExactly R (entered g) (left g m')
 
 -- Two shapes, and a relation of two texts.
-abbrev pub ExactTwo : (List ℕ → List ℕ → Type 0) → (Two → NarrowMemory → NarrowMemory → Narrowed → Type 0) → Type 0
+abbrev pub ExactTwo : (List ℕ → List ℕ → Type 0) → (Two → NarrowMemory → NarrowMemory → Result Narrowed Refusal → Type 0) → Type 0
 ExactTwo R Promise = Exact (λ t. R (get_or t 0 []) (get_or t 1 [])) Promise
     (λ s. shape_of s.x ∷ shape_of s.y ∷ [])
     (λ s m'. new_shape s.x m'.out_x ∷ new_shape s.y m'.out_y ∷ [])
@@ -118,11 +117,11 @@ ExactJoin = Exact (λ t. get_or t 0 [] ≡ get_or t 1 [] ++ get_or t 2 []) narro
 
 pub record Demand2 : Type 0 where
   -- "Fitting, least and greatest text mean what the dashed-string papers define."
-  pub fits_yes : (xs t : List ℕ) → FitsShape xs t Fit.Fits → Fits (shape_of xs) t
-  pub fits_no : (xs t : List ℕ) → FitsShape xs t Fit.Unfit → Fits (shape_of xs) t → ⊥
-  pub least : {xs out out' : List ℕ} (n : ℕ) → LeastText xs out out' (Written.Text n)
+  pub fits_yes : (xs t : List ℕ) → FitsShape xs t (Ok Fit.Fits) → Fits (shape_of xs) t
+  pub fits_no : (xs t : List ℕ) → FitsShape xs t (Ok Fit.Unfit) → Fits (shape_of xs) t → ⊥
+  pub least : {xs out out' : List ℕ} (n : ℕ) → LeastText xs out out' (Ok n)
       → Fits (shape_of xs) (take n out') × ((u : List ℕ) → Fits (shape_of xs) u → AtMost (take n out') u)
-  pub greatest : {xs out out' : List ℕ} (n : ℕ) → GreatestText xs out out' (Written.Text n)
+  pub greatest : {xs out out' : List ℕ} (n : ℕ) → GreatestText xs out out' (Ok n)
       → Fits (shape_of xs) (take n out') × ((u : List ℕ) → Fits (shape_of xs) u → AtMost u (take n out'))
   -- "For equality and both orders ..": equality once trailing blanks are dropped, equality to the letter (document 02,
   -- order 5), and equality but for letter case (order 9)
@@ -135,12 +134,12 @@ pub record Demand2 : Type 0 where
   pub join : ExactJoin
   -- "The quick sweep follows its corrected rules": the answer with its
   -- looks, and every output cell, are those of document 01's steps
-  pub sweep_places : {s : Two} {out out' : List ℕ} (k : ℕ) → sweep.Promise s out out' (Swept.Places k)
+  pub sweep_places : {s : Two} {out out' : List ℕ} (k : ℕ) → sweep.Promise s out out' (Ok (Swept.Places k))
       → let o = sweep_of (shape_of s.x) (shape_of s.y) in (Swept.Places k ≡ swept_of o) × (out' ≡ output_of o out)
-  pub sweep_cannot : {s : Two} {out out' : List ℕ} (k : ℕ) → sweep.Promise s out out' (Swept.Cannot k)
+  pub sweep_cannot : {s : Two} {out out' : List ℕ} (k : ℕ) → sweep.Promise s out out' (Ok (Swept.Cannot k))
       → let o = sweep_of (shape_of s.x) (shape_of s.y) in (Swept.Cannot k ≡ swept_of o) × (out' ≡ output_of o out)
   -- "and says 'cannot' only where no common text exists"
-  pub cannot_sound : {s : Two} {out out' : List ℕ} (k : ℕ) → sweep.Promise s out out' (Swept.Cannot k)
+  pub cannot_sound : {s : Two} {out out' : List ℕ} (k : ℕ) → sweep.Promise s out out' (Ok (Swept.Cannot k))
       → (t : List ℕ) → Fits (shape_of s.x) t → Fits (shape_of s.y) t → ⊥
 
 -- ---- demand 3

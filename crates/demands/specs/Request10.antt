@@ -1,13 +1,10 @@
 -- Document 02, order 10, a field for each sentence: all 256 codes.
-use Rattle.std.specs.Prelude.{◌≡◌, false, List, [], ◌∷◌, ◌++◌, map, ◌↔◌, ℕ, ◌+◌, ◌-◌, ◌*◌, ◌/◌, ◌%◌, ◌^◌, ◌≤◌, ◌<◌, ℤ, pos, neg_ℤ, length, get_or, take}
+use Rattle.std.specs.Prelude.{◌≡◌, false, List, [], ◌∷◌, ◌++◌, map, ◌↔◌, ℕ, ◌+◌, ◌-◌, ◌*◌, ◌/◌, ◌%◌, ◌^◌, ◌≤◌, ◌<◌, ℤ, pos, neg_ℤ, length, get_or, take, Result, Ok, Err, Option, Some}
 use Rattle.answers.specs.Told.{tell, told}
-use Rattle.answers.specs.declared.Checked.{Checked}
 use Rattle.answers.specs.declared.Fit.{Fit}
 use Rattle.answers.specs.declared.Refusal.{Refusal}
-use Rattle.answers.specs.declared.Shown.{Shown}
 use Rattle.answers.specs.declared.Sought.{Sought}
 use Rattle.answers.specs.declared.TextRan.{TextRan}
-use Rattle.answers.specs.declared.Written.{Written}
 use Rattle.plain.specs.All.{All}
 use Rattle.bases.specs.Base.{base_of, Holds, base_words, codes}
 use Rattle.shapes.specs.Shape.{Block, block_size, block_count}
@@ -61,18 +58,18 @@ pub record Request10 : Type 0 where
   -- "a shape's length a multiple of six", of 1 to 32 blocks; "1 .. read[s] the new numbers": any other is refused with 1,
   -- and no other shape is
   pub one : (xs : List ℕ) → (SixToABlock (length xs) → ⊥) → CallTells check_shape_call xs tt (tell 1 1 0)
-  pub one_only : (xs : List ℕ) (q : Refusal) → CheckShape xs (Checked.Refused q) → (told q).number ≡ 1 → SixToABlock (length xs) → ⊥
+  pub one_only : (xs : List ℕ) (q : Refusal) → CheckShape xs (Err q) → (told q).number ≡ 1 → SixToABlock (length xs) → ⊥
   -- "A byte above 127 may now fit": each code does, is least and greatest, and stands in a common text and in a mark
   -- (a shape of one block, in 64-bit numbers)
   pub alone_lent : (c : ℕ) → c < 256 → Numbers (alone c)
-  pub fits_code : (c : ℕ) → c < 256 → (r : Fit) → FitsShape (alone c) (c ∷ []) r → r ≡ Fit.Fits
-  pub least_code : (c : ℕ) → c < 256 → (out out' : List ℕ) (r : Written) → 250 ≤ length out → LeastText (alone c) out out' r
-      → (r ≡ Written.Text 1) × (take 1 out' ≡ c ∷ [])
-  pub greatest_code : (c : ℕ) → c < 256 → (out out' : List ℕ) (r : Written) → 250 ≤ length out → GreatestText (alone c) out out' r
-      → (r ≡ Written.Text 1) × (take 1 out' ≡ c ∷ [])
-  pub common_code : (c : ℕ) → c < 256 → (m m' : CommonMemory) (r : Shown) → 63001 ≤ length m.work → 250 ≤ length m.out
-      → common_text_call.Promise (record { x = alone c; y = alone c }) m m' r → (r ≡ Shown.Text 1) × (take 1 m'.out ≡ c ∷ [])
-  pub mark_code : (c : ℕ) → c < 256 → (r : Sought) → FindMark (alone c) (c ∷ []) r → (lacking r ≡ false) × (least_index r ≡ 1) × (greatest_index r ≡ 1)
+  pub fits_code : (c : ℕ) → c < 256 → (r : Result Fit Refusal) → FitsShape (alone c) (c ∷ []) r → r ≡ (Ok Fit.Fits)
+  pub least_code : (c : ℕ) → c < 256 → (out out' : List ℕ) (r : Result ℕ Refusal) → 250 ≤ length out → LeastText (alone c) out out' r
+      → (r ≡ Ok 1) × (take 1 out' ≡ c ∷ [])
+  pub greatest_code : (c : ℕ) → c < 256 → (out out' : List ℕ) (r : Result ℕ Refusal) → 250 ≤ length out → GreatestText (alone c) out out' r
+      → (r ≡ Ok 1) × (take 1 out' ≡ c ∷ [])
+  pub common_code : (c : ℕ) → c < 256 → (m m' : CommonMemory) (r : Result (Option ℕ) Refusal) → 63001 ≤ length m.work → 250 ≤ length m.out
+      → common_text_call.Promise (record { x = alone c; y = alone c }) m m' r → (r ≡ Ok (Some 1)) × (take 1 m'.out ≡ c ∷ [])
+  pub mark_code : (c : ℕ) → c < 256 → (r : Result Sought Refusal) → FindMark (alone c) (c ∷ []) r → (lacking r ≡ false) × (least_index r ≡ 1) × (greatest_index r ≡ 1)
   -- "A file section headed BLOCKS keeps its 32 digits and means codes up to 127; one headed WIDE has 64 digits"
   pub blocks_line : (b : Block) → line_of (Blocks Low) b ≡ digits 16 32 b.base ++ 32 ∷ two_numbers b.lower b.upper
   pub blocks_mean : (b : Block) → RightBlock Low b → (c : ℕ) → Holds b.base c → c ≤ 127
@@ -92,7 +89,7 @@ pub record Request10 : Type 0 where
   pub told_there : {file : List ℕ} (report : List ℕ) (k : ℕ) → length file ≤ 32768 → Departs book_grammar file k → CallTells run_file_call file report (tell 8 0 k)
   -- "and the report uses the heading that came in", whatever codes there are
   pub heading_stays : {file : List ℕ} {b : Book} {gs : List TextRan} {s : Sheet} → FileAccepted file b → FileEnds file (ran gs s) → s.width ≡ b.sheet.width
-  pub report_heading : {file report report' : List ℕ} {b : Book} (n : ℕ) → run_file_call.Promise file report report' (Written.Text n) → FileAccepted file b
+  pub report_heading : {file report report' : List ℕ} {b : Book} (n : ℕ) → run_file_call.Promise file report report' (Ok n) → FileAccepted file b
       → (v : Verdict) × (take n report' ≡ report_of v) × ((gs : List TextRan) (s : Sheet) → v ≡ ran gs s → s.width ≡ b.sheet.width)
   -- a run of a BLOCKS book keeps the upper words 0, in the lent blocks too, so that 32 digits tell all: a sheet that is
   -- reported is in the grammar, and of these each writing has one
@@ -116,4 +113,4 @@ pub record Request10 : Type 0 where
   -- "6 and 9 read the new numbers"
   pub six : (g : CountsAndRules) (m : BookMemory) → (length m.blocks ≡ 6 * sum_of g.counts → ⊥) → CallTells run_book_call g m (tell 6 0 0)
   pub nine : (file report : List ℕ) → 32768 < length file → CallTells run_file_call file report (tell 9 0 0)
-  pub nine_only : {file report report' : List ℕ} (q : Refusal) → run_file_call.Promise file report report' (Written.Refused q) → (told q).number ≡ 9 → 32768 < length file
+  pub nine_only : {file report report' : List ℕ} (q : Refusal) → run_file_call.Promise file report report' (Err q) → (told q).number ≡ 9 → 32768 < length file

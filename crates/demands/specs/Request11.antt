@@ -1,12 +1,11 @@
 -- Document 02, order 11, a field for each sentence: two laboratories, one book. What a run leaves of text k and answers
 -- of it is `numbers_in g.counts m'.blocks k` and `text_ran row k`; `gs` are the groups of a report, by number.
-use Rattle.std.specs.Prelude.{◌≡◌, List, [], ◌∷◌, ◌++◌, map, ◌⊎◌, ◌↔◌, ℕ, ◌≤◌, ◌<◌, length, get_or, take}
+use Rattle.std.specs.Prelude.{◌≡◌, List, [], ◌∷◌, ◌++◌, map, ◌⊎◌, ◌↔◌, ℕ, ◌≤◌, ◌<◌, length, get_or, take, Ok}
 use Rattle.answers.specs.Told.{Told, told}
 use Rattle.answers.specs.declared.Ended.{Ended}
 use Rattle.answers.specs.declared.Ran.{Ran}
 use Rattle.answers.specs.declared.Refusal.{Refusal}
 use Rattle.answers.specs.declared.TextRan.{TextRan}
-use Rattle.answers.specs.declared.Written.{Written}
 use Rattle.rules.specs.declared.Rule.{Rule}
 use Rattle.rules.specs.Rule.{rule_at, rule_count, numbers_of_all}
 use Rattle.shapes.specs.Shape.{Block}
@@ -125,7 +124,7 @@ pub record Request11 : Type 1 where
       → shape_in s.counts s.blocks k ≡ shape_in b.sheet.counts b.sheet.blocks k
   -- the report of a file is that of what `run_book` answers and leaves of its book
   pub as_run_book : {file report report' : List ℕ} {b : Book} {m m' : BookMemory} {row : List TextRan} (n : ℕ) → FileAccepted file b
-      → run_file_call.Promise file report report' (Written.Text n) → m.blocks ≡ lent_blocks b → RunOf (given_of b) m m' row
+      → run_file_call.Promise file report report' (Ok n) → m.blocks ≡ lent_blocks b → RunOf (given_of b) m m' row
       → (gs : List TextRan) × GroupsIn 1 (take (length b.sheet.counts) row) gs × (take n report' ≡ report_of (ran gs (sheet_of b.sheet.width b.sheet.counts m'.blocks)))
   -- "This replaces the first line and the bare NONE"; REFUSED stays alone
   pub refused_alone : (t : Told) → report_of (refused t) ≡ refused_line t ++ 10 ∷ []

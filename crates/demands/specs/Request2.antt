@@ -1,9 +1,8 @@
 -- Document 02, order 2, a field for each sentence: the earliest common
 -- text. To the other calls the same shapes are lent, and other memory.
-use Rattle.std.specs.Prelude.{◌≡◌, List, [], ◌∷◌, ◌↔◌, ℕ, ◌≤◌, length, take, drop}
+use Rattle.answers.specs.declared.Refusal.{Refusal}
+use Rattle.std.specs.Prelude.{◌≡◌, List, [], ◌∷◌, ◌↔◌, ℕ, ◌≤◌, length, take, drop, Result, Ok, Option, Some, None}
 use Rattle.answers.specs.declared.Narrowed.{Narrowed}
-use Rattle.answers.specs.declared.Shown.{Shown}
-use Rattle.answers.specs.declared.Written.{Written}
 use Rattle.shapes.specs.Shape.{Fits}
 use Rattle.shapes.specs.Lent.{shape_of}
 use Rattle.texts.specs.Order.{AtMost}
@@ -43,17 +42,17 @@ pub record WhereNone (s : Two) (m m' : CommonMemory) : Type 0 where
   pub zeroed : Cleared m.work m'.work
 
 pub record Request2 : Type 0 where
-  pub shown : {s : Two} {m m' : CommonMemory} (n : ℕ) → common_text_call.Promise s m m' (Shown.Text n) → WhereShown s m m' n
-  pub none : {s : Two} {m m' : CommonMemory} → common_text_call.Promise s m m' Shown.None → WhereNone s m m'
+  pub shown : {s : Two} {m m' : CommonMemory} (n : ℕ) → common_text_call.Promise s m m' (Ok (Some n)) → WhereShown s m m' n
+  pub none : {s : Two} {m m' : CommonMemory} → common_text_call.Promise s m m' (Ok None) → WhereNone s m m'
   -- "'None' exactly as in narrowing under equality", whatever memory is lent to the two calls, as long as there is room
-  pub none_exactly : (s : Two) (m m' : CommonMemory) (n n' : NarrowMemory) (r : Shown) (u : Narrowed)
+  pub none_exactly : (s : Two) (m m' : CommonMemory) (n n' : NarrowMemory) (r : Result (Option ℕ) Refusal) (u : Result Narrowed Refusal)
       → common_text_call.Promise s m m' r → narrow_exact.Promise s n n' u
-      → ShowRoom (length m.work) (length m.out) → HasRoom s n → (r ≡ Shown.None) ↔ (u ≡ Narrowed.None)
+      → ShowRoom (length m.work) (length m.out) → HasRoom s n → (r ≡ (Ok None)) ↔ (u ≡ (Ok Narrowed.None))
   -- what is shown is an example of what narrowing leaves: it fits both narrowed shapes
   pub fits_narrowed : {s : Two} {m m' : CommonMemory} {n n' : NarrowMemory} (k : ℕ)
-      → common_text_call.Promise s m m' (Shown.Text k) → narrow_exact.Promise s n n' Narrowed.Narrow
+      → common_text_call.Promise s m m' (Ok (Some k)) → narrow_exact.Promise s n n' (Ok Narrowed.Narrow)
       → Fits (new_shape s.x n'.out_x) (take k m'.out) × Fits (new_shape s.y n'.out_y) (take k m'.out)
   -- a shape and itself: there is a common text, and the earliest is the least text
-  pub same_least : {xs out out' : List ℕ} {m m' : CommonMemory} (n k : ℕ) → common_text_call.Promise (twice xs) m m' (Shown.Text n)
-      → least_text.Promise xs out out' (Written.Text k) → (n ≡ k) × (take n m'.out ≡ take k out')
-  pub same_some : {xs : List ℕ} {m m' : CommonMemory} → common_text_call.Promise (twice xs) m m' Shown.None → ⊥
+  pub same_least : {xs out out' : List ℕ} {m m' : CommonMemory} (n k : ℕ) → common_text_call.Promise (twice xs) m m' (Ok (Some n))
+      → least_text.Promise xs out out' (Ok k) → (n ≡ k) × (take n m'.out ≡ take k out')
+  pub same_some : {xs : List ℕ} {m m' : CommonMemory} → common_text_call.Promise (twice xs) m m' (Ok None) → ⊥

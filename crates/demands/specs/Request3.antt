@@ -1,9 +1,8 @@
 -- Document 02, order 3, a field for each sentence: joins. To a second call other memory is lent, n.
-use Rattle.std.specs.Prelude.{◌≡◌, List, [], ◌++◌, ◌∷◌, map, ◌↔◌, ℕ, ◌+◌, ◌*◌, ◌%◌, ◌≤◌, ◌<◌, length}
+use Rattle.std.specs.Prelude.{◌≡◌, List, [], ◌++◌, ◌∷◌, map, ◌↔◌, ℕ, ◌+◌, ◌*◌, ◌%◌, ◌≤◌, ◌<◌, length, Result, Ok}
 use Rattle.answers.specs.Told.{tell, told}
 use Rattle.answers.specs.declared.Refusal.{Refusal}
 use Rattle.answers.specs.declared.Narrowed.{Narrowed}
-use Rattle.answers.specs.declared.Written.{Written}
 use Rattle.shapes.specs.Shape.{Fits, total}
 use Rattle.shapes.specs.Lent.{shape_of}
 use Rattle.texts.specs.Kind.{relation_of, join_kind}
@@ -46,7 +45,7 @@ pub record Request3 : Type 0 where
   pub four_numbers : {g : CountsAndRules} {blocks : List ℕ} {w : ℕ} → AcceptedWith g blocks w → length g.rules ≡ rule_count g.rules * 4
   -- "in the file too": a file that is not refused ends with a
   -- line of four numbers for each rule of the book that is run
-  pub in_the_file : {file report report' : List ℕ} (n : ℕ) → run_file_call.Promise file report report' (Written.Text n)
+  pub in_the_file : {file report report' : List ℕ} (n : ℕ) → run_file_call.Promise file report report' (Ok n)
       → (b : Book) × AcceptedWith (given_of b) (lent_blocks b) 63001 × ((front : List (List ℕ)) × (file ≡ joined (front ++ map numbers_of_four b.rules)))
   -- "6 reads fours of numbers where it read triples": rules that are no whole
   -- fours are refused by 6, and whole fours, up to 16, are no ground for it
@@ -68,20 +67,20 @@ pub record Request3 : Type 0 where
       RightRule counts t → t.kind ≡ join_kind → 250 < total (shape_in counts (shape_of blocks) t.b) + total (shape_in counts (shape_of blocks) t.c)
       → BookRefused counts blocks rules w (tell 12 0 (i + 1))
   -- what some triple of texts satisfies stays: no such triple is lost
-  pub none_lost : {s : Three} {m m' : JoinMemory} → narrow_join.Promise s m m' Narrowed.Narrow
+  pub none_lost : {s : Three} {m m' : JoinMemory} → narrow_join.Promise s m m' (Ok Narrowed.Narrow)
       → (t u v : List ℕ) → Fits (shape_of s.x) t → Fits (shape_of s.y) u → Fits (shape_of s.z) v → t ≡ u ++ v
       → Fits (new_shape s.x m'.out_x) t × Fits (new_shape s.y m'.out_y) u × Fits (new_shape s.z m'.out_z) v
   -- "All three are narrowed over triples": from the entered shapes; that b and c are as they would be if they were
   -- narrowed against what a's narrowing left is a law
   pub from_first : {s : Three} {m m' n n' : JoinMemory}
-      → narrow_join.Promise s m m' Narrowed.Narrow → narrow_join.Promise (first_left s m') n n' Narrowed.Narrow
+      → narrow_join.Promise s m m' (Ok Narrowed.Narrow) → narrow_join.Promise (first_left s m') n n' (Ok Narrowed.Narrow)
       → (new_numbers s.y n'.out_y ≡ new_numbers s.y m'.out_y) × (new_numbers s.z n'.out_z ≡ new_numbers s.z m'.out_z)
   -- a join is exact equality with the line that b's blocks make with c's
   -- behind them, where that is a shape: the same none, and the same numbers
-  pub as_equality_none : (s : Three) (m m' : JoinMemory) (n n' : NarrowMemory) (r u : Narrowed)
+  pub as_equality_none : (s : Three) (m m' : JoinMemory) (n n' : NarrowMemory) (r u : Result Narrowed Refusal)
       → narrow_join.Promise s m m' r → narrow_exact.Promise (beside s) n n' u
-      → (narrow_join.checked s m).good → (narrow_exact.checked (beside s) n).good → (r ≡ Narrowed.None) ↔ (u ≡ Narrowed.None)
+      → (narrow_join.checked s m).good → (narrow_exact.checked (beside s) n).good → (r ≡ (Ok Narrowed.None)) ↔ (u ≡ (Ok Narrowed.None))
   pub as_equality : {s : Three} {m m' : JoinMemory} {n n' : NarrowMemory}
-      → narrow_join.Promise s m m' Narrowed.Narrow → narrow_exact.Promise (beside s) n n' Narrowed.Narrow
+      → narrow_join.Promise s m m' (Ok Narrowed.Narrow) → narrow_exact.Promise (beside s) n n' (Ok Narrowed.Narrow)
       → (new_numbers s.x m'.out_x ≡ new_numbers s.x n'.out_x)
       × (new_numbers s.y m'.out_y ++ new_numbers s.z m'.out_z ≡ new_numbers (s.y ++ s.z) n'.out_y)

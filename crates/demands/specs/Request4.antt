@@ -1,9 +1,8 @@
 -- Document 02, order 4, a field for each sentence: the call of
 -- a C host. To `run_file` the same book and report are lent.
-use Rattle.std.specs.Prelude.{◌≡◌, List, ◌⊎◌, ℕ, ◌≤◌, ◌<◌, ℤ, pos, neg_ℤ, length, take, drop}
+use Rattle.std.specs.Prelude.{◌≡◌, List, ◌⊎◌, ℕ, ◌≤◌, ◌<◌, ℤ, pos, neg_ℤ, length, take, drop, Result, Ok, Err}
 use Rattle.answers.specs.Told.{told}
 use Rattle.answers.specs.declared.Refusal.{Refusal}
-use Rattle.answers.specs.declared.Written.{Written}
 use Rattle.pairs.specs.Narrow.{Cleared}
 use Rattle.file_lines.specs.Book.{Book, file_limit}
 use Rattle.files.specs.Departs.{FileAccepted}
@@ -32,15 +31,15 @@ pub record Request4 : Type 0 where
       → ((n : ℕ) × (z ≡ pos n)) ⊎ ((q : Refusal) × (z ≡ negated q))
   pub not_both : (n : ℕ) (q : Refusal) → pos n ≡ negated q → ⊥
   -- with enough work it is `run_file`: the number of its answer, and its report
-  pub as_run_file : (book report' : List ℕ) (m m' : HostMemory) (z : ℤ) (r : Written) → 63001 ≤ length m.work → run_host_call.Promise book m m' z
+  pub as_run_file : (book report' : List ℕ) (m m' : HostMemory) (z : ℤ) (r : Result ℕ Refusal) → 63001 ≤ length m.work → run_host_call.Promise book m m' z
       → run_file_call.Promise book m.report report' r → (z ≡ handed r) × (m'.report ≡ report')
   -- with less it is 4 in the place of a report, and of 5; every other refusal is the same
   pub less_for_text : {book report' : List ℕ} {m m' : HostMemory} (z : ℤ) (n : ℕ) → length m.work < 63001 → run_host_call.Promise book m m' z
-      → run_file_call.Promise book m.report report' (Written.Text n) → z ≡ neg_ℤ (pos 4)
+      → run_file_call.Promise book m.report report' (Ok n) → z ≡ neg_ℤ (pos 4)
   pub less_for_five : {book report' : List ℕ} {m m' : HostMemory} (z : ℤ) (q : Refusal) → length m.work < 63001 → run_host_call.Promise book m m' z
-      → run_file_call.Promise book m.report report' (Written.Refused q) → (told q).number ≡ 5 → z ≡ neg_ℤ (pos 4)
+      → run_file_call.Promise book m.report report' (Err q) → (told q).number ≡ 5 → z ≡ neg_ℤ (pos 4)
   pub other_refusals : {book report' : List ℕ} {m m' : HostMemory} (z : ℤ) (q : Refusal) → run_host_call.Promise book m m' z
-      → run_file_call.Promise book m.report report' (Written.Refused q) → ((told q).number ≡ 5 → ⊥) → z ≡ negated q
+      → run_file_call.Promise book m.report report' (Err q) → ((told q).number ≡ 5 → ⊥) → z ≡ negated q
   -- "Refusals: 5 last": it says that the book is accepted, with
   -- the work buffer lent, and only the report buffer is too short
   pub five_last : {book : List ℕ} {m m' : HostMemory} → run_host_call.Promise book m m' (neg_ℤ (pos 5))

@@ -1,6 +1,7 @@
 -- Document 02, order 5, a field for each sentence: equality of padded fields. To both calls the same shapes are lent; m
 -- is the memory of the one on padded texts, n that of the exact one.
-use Rattle.std.specs.Prelude.{◌≡◌, List, [], ◌∷◌, ◌++◌, ◌⊎◌, ◌↔◌, ℕ, ◌+◌, ◌^◌, ◌≤◌, length, replicate}
+use Rattle.answers.specs.declared.Refusal.{Refusal}
+use Rattle.std.specs.Prelude.{◌≡◌, List, [], ◌∷◌, ◌++◌, ◌⊎◌, ◌↔◌, ℕ, ◌+◌, ◌^◌, ◌≤◌, length, replicate, Result, Ok}
 use Rattle.answers.specs.declared.Narrowed.{Narrowed}
 use Rattle.answers.specs.declared.Swept.{Swept}
 use Rattle.texts.specs.Padding.{blank, trimmed, Padded, BlanksBehind}
@@ -31,9 +32,9 @@ pub record Equality (k : ℕ) : Type 0 where
 
 -- The pairs of kind 4 are among those of another: a none of that
 -- one is one of kind 4, and it keeps at least what kind 4 keeps.
-pub record BesideExact (Promise : Two → NarrowMemory → NarrowMemory → Narrowed → Type 0) : Type 0 where
-  pub none_of_both : {s : Two} {m m' n n' : NarrowMemory} → Promise s m m' Narrowed.None → narrow_exact.Promise s n n' Narrowed.Narrow → ⊥
-  pub keeps_more : {s : Two} {m m' n n' : NarrowMemory} → Promise s m m' Narrowed.Narrow → narrow_exact.Promise s n n' Narrowed.Narrow
+pub record BesideExact (Promise : Two → NarrowMemory → NarrowMemory → Result Narrowed Refusal → Type 0) : Type 0 where
+  pub none_of_both : {s : Two} {m m' n n' : NarrowMemory} → Promise s m m' (Ok Narrowed.None) → narrow_exact.Promise s n n' (Ok Narrowed.Narrow) → ⊥
+  pub keeps_more : {s : Two} {m m' n n' : NarrowMemory} → Promise s m m' (Ok Narrowed.Narrow) → narrow_exact.Promise s n n' (Ok Narrowed.Narrow)
       → Within (new_shape s.x n'.out_x) (new_shape s.x m'.out_x) × Within (new_shape s.y n'.out_y) (new_shape s.y m'.out_y)
 
 pub record Request5 : Type 0 where
@@ -60,9 +61,9 @@ pub record Request5 : Type 0 where
   pub orders_count_back : (t : List ℕ) (n : ℕ) → relation_of at_most_kind (t ++ replicate (n + 1) blank) t → ⊥
   -- "a 'cannot' is no ground for a kind 0 none": of these two shapes the sweep says cannot and `narrow_padded` narrows,
   -- whatever memory is lent, as long as there is room
-  pub cannot_no_ground : (out out' : List ℕ) (m m' : NarrowMemory) (r : Swept) (u : Narrowed)
+  pub cannot_no_ground : (out out' : List ℕ) (m m' : NarrowMemory) (r : Result Swept Refusal) (u : Result Narrowed Refusal)
       → sweep.Promise fields out out' r → narrow_padded.Promise fields m m' u
-      → 4 ≤ length out → HasRoom fields m → (r ≡ Swept.Cannot 4) × (u ≡ Narrowed.Narrow)
+      → 4 ≤ length out → HasRoom fields m → (r ≡ Ok (Swept.Cannot 4)) × (u ≡ (Ok Narrowed.Narrow))
   -- "Demand 2 speaks of both, each with its own pairs" (`padded`, `exact`)
   pub beside_exact : BesideExact narrow_padded.Promise
   -- "Demand 3 holds with both kinds in a book": what such rules ask of texts

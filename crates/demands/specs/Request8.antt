@@ -1,11 +1,10 @@
 -- Document 02, order 8, a field for each sentence: a tray of pairs. row' is the row of answer records as handed back.
-use Rattle.std.specs.Prelude.{◌≡◌, List, ◌∷◌, ◌++◌, ◌⊎◌, ◌↔◌, ℕ, ◌+◌, ◌-◌, ◌*◌, ◌/◌, ◌%◌, ◌≤◌, ◌<◌, length, get_or, take, drop}
+use Rattle.std.specs.Prelude.{◌≡◌, List, ◌∷◌, ◌++◌, ◌⊎◌, ◌↔◌, ℕ, ◌+◌, ◌-◌, ◌*◌, ◌/◌, ◌%◌, ◌≤◌, ◌<◌, length, get_or, take, drop, Result, Ok, Err}
 use Rattle.answers.specs.Told.{Told, tell, told}
 use Rattle.answers.specs.declared.Refusal.{Refusal}
 use Rattle.answers.specs.declared.AnswerRecord.{AnswerRecord}
 use Rattle.answers.specs.declared.Swept.{Swept}
 use Rattle.answers.specs.declared.SweepVerdict.{SweepVerdict}
-use Rattle.answers.specs.declared.Tray.{Tray}
 use Rattle.shapes.specs.Shape.{Fits, block_size, block_count}
 use Rattle.shapes.specs.Lent.{shape_of, ShapeRefused}
 use Rattle.pairs.specs.Pair.{PairRefused}
@@ -27,29 +26,29 @@ pub record WhereJudged (g : BlocksAndPairs) (row row' : List AnswerRecord) : Typ
 pub record WhereRecorded (g : BlocksAndPair) (r : AnswerRecord) : Type 0 where
   -- "verdict, looks and refusal of the quick sweep, equal to what single
   -- calls give": whatever output with room is lent to the single call
-  pub as_single : (out out' : List ℕ) (s : Swept) → BothInside g
+  pub as_single : (out out' : List ℕ) (s : Result Swept Refusal) → BothInside g
       → sweep.Promise (held_by g) out out' s → 2 * length (shape_of (held_by g).x) ≤ length out → r ≡ recorded s
   -- so that a cannot comes only where no text fits both, and the looks are at most 2 (n + m)
-  pub cannot_sound : r.verdict ≡ SweepVerdict.Cannot → (t : List ℕ) → Fits (shape_of (held_by g).x) t → Fits (shape_of (held_by g).y) t → ⊥
+  pub cannot_sound : r.verdict ≡ Ok SweepVerdict.Cannot → (t : List ℕ) → Fits (shape_of (held_by g).x) t → Fits (shape_of (held_by g).y) t → ⊥
   pub few_looks : r.looks ≤ 2 * (length (shape_of (held_by g).x) + length (shape_of (held_by g).y))
   -- "A refused record has 0 looks."
-  pub no_looks : (q : Refusal) → r.verdict ≡ SweepVerdict.Refused q → r.looks ≡ 0
+  pub no_looks : (q : Refusal) → r.verdict ≡ Err q → r.looks ≡ 0
 
 pub record Request8 : Type 0 where
   -- "Overnight we judge up to 64 pairs from one lent run of blocks."
   -- None too, and whatever stands in the list and in the run
-  pub up_to_64 : (g : BlocksAndPairs) (row row' : List AnswerRecord) (r : Tray) (n : ℕ) → n ≤ 64 → length g.pairs ≡ n * pair_size → n ≤ length row
-      → sweep_tray.Promise g row row' r → r ≡ Tray.Judged
+  pub up_to_64 : (g : BlocksAndPairs) (row row' : List AnswerRecord) (r : Result Unit Refusal) (n : ℕ) → n ≤ 64 → length g.pairs ≡ n * pair_size → n ≤ length row
+      → sweep_tray.Promise g row row' r → r ≡ (Ok tt)
   -- "A pair is four numbers: each range's first block, from 0, and the block past its last."
   pub four_numbers : (front rest : List ℕ) (i a b c d : ℕ) → length front ≡ i * 4
       → pair_at (front ++ a ∷ b ∷ c ∷ d ∷ rest) i ≡ record { x = range a b; y = range c d }
   pub its_blocks : (blocks : List ℕ) (r : Range) → shape_of (lent_in blocks r) ≡ take (r.past - r.first) (drop r.first (shape_of blocks))
-  pub judged : {g : BlocksAndPairs} {row row' : List AnswerRecord} → sweep_tray.Promise g row row' Tray.Judged → WhereJudged g row row'
+  pub judged : {g : BlocksAndPairs} {row row' : List AnswerRecord} → sweep_tray.Promise g row row' (Ok tt) → WhereJudged g row row'
   pub pair_record : (g : BlocksAndPair) (r : AnswerRecord) → judge_pair.Promise g tt tt r → WhereRecorded g r
   -- "A bad pair is refused in its own record and does not stop the rest.":
   -- a pair has one record, whatever the other pairs of its tray are
   pub own_record : {g h : BlocksAndPairs} {row row' row₁ row₁' : List AnswerRecord} → g.blocks ≡ h.blocks
-      → sweep_tray.Promise g row row' Tray.Judged → sweep_tray.Promise h row₁ row₁' Tray.Judged
+      → sweep_tray.Promise g row row' (Ok tt) → sweep_tray.Promise h row₁ row₁' (Ok tt)
       → (i j : ℕ) → i < pair_count g.pairs → j < pair_count h.pairs → pair_at g.pairs i ≡ pair_at h.pairs j
       → (d : AnswerRecord) → get_or row' i d ≡ get_or row₁' j d
   -- "14 for a range that ends before it starts or reaches past the

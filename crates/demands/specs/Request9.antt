@@ -1,6 +1,6 @@
 -- Document 02, order 9, a field for each sentence: equality but for letter case. m is the memory of the call of kind 5,
 -- n that of the exact one; w are the shapes s with both cases of each letter.
-use Rattle.std.specs.Prelude.{◌≡◌, List, [], ◌∷◌, ◌++◌, map, ◌⊎◌, ◌↔◌, ℕ, ◌+◌, ◌^◌, ◌≤◌, ◌<◌, length, replicate}
+use Rattle.std.specs.Prelude.{◌≡◌, List, [], ◌∷◌, ◌++◌, map, ◌⊎◌, ◌↔◌, ℕ, ◌+◌, ◌^◌, ◌≤◌, ◌<◌, length, replicate, Result, Ok, Err}
 use Rattle.answers.specs.declared.Refusal.{Refusal}
 use Rattle.answers.specs.declared.Narrowed.{Narrowed}
 use Rattle.answers.specs.declared.Swept.{Swept}
@@ -55,35 +55,35 @@ pub record Request9 : Type 0 where
   -- "and all that relies on it follows": kind 5 is none exactly if kind 4 is for the shapes with both cases; else it
   -- has its counts, and of its characters those entered
   pub none_follows : {s w : Two} {m m' n n' : NarrowMemory} → WideBoth s w
-      → narrow_any_case.Promise s m m' Narrowed.None → narrow_exact.Promise w n n' Narrowed.Narrow → ⊥
+      → narrow_any_case.Promise s m m' (Ok Narrowed.None) → narrow_exact.Promise w n n' (Ok Narrowed.Narrow) → ⊥
   pub pair_follows : {s w : Two} {m m' n n' : NarrowMemory} → WideBoth s w
-      → narrow_any_case.Promise s m m' Narrowed.Narrow → narrow_exact.Promise w n n' Narrowed.None → ⊥
+      → narrow_any_case.Promise s m m' (Ok Narrowed.Narrow) → narrow_exact.Promise w n n' (Ok Narrowed.None) → ⊥
   pub blocks_follow : {s w : Two} {m m' n n' : NarrowMemory} → WideBoth s w
-      → narrow_any_case.Promise s m m' Narrowed.Narrow → narrow_exact.Promise w n n' Narrowed.Narrow
+      → narrow_any_case.Promise s m m' (Ok Narrowed.Narrow) → narrow_exact.Promise w n n' (Ok Narrowed.Narrow)
       → Cuts (shape_of s.x) (new_shape w.x n'.out_x) (new_shape s.x m'.out_x)
       × Cuts (shape_of s.y) (new_shape w.y n'.out_y) (new_shape s.y m'.out_y)
   -- "The narrowed bases keep the letters in the cases the shape entered them with": no base has a letter in another
   -- case, and each has it in all that were entered
-  pub no_other_case : {s : Two} {m m' : NarrowMemory} → narrow_any_case.Promise s m m' Narrowed.Narrow
+  pub no_other_case : {s : Two} {m m' : NarrowMemory} → narrow_any_case.Promise s m m' (Ok Narrowed.Narrow)
       → Within (new_shape s.x m'.out_x) (shape_of s.x) × Within (new_shape s.y m'.out_y) (shape_of s.y)
-  pub cases_stay : {s : Two} {m m' : NarrowMemory} → narrow_any_case.Promise s m m' Narrowed.Narrow
+  pub cases_stay : {s : Two} {m m' : NarrowMemory} → narrow_any_case.Promise s m m' (Ok Narrowed.Narrow)
       → CasesStay (shape_of s.x) (new_shape s.x m'.out_x) × CasesStay (shape_of s.y) (new_shape s.y m'.out_y)
   -- so two shapes that differ in the case of letters alone both stay as
   -- they were entered, whatever memory is lent, as long as there is room
-  pub both_stay : (s : Two) (m m' : NarrowMemory) {W : List Block} (r : Narrowed) → Wide (shape_of s.x) W → Wide (shape_of s.y) W
+  pub both_stay : (s : Two) (m m' : NarrowMemory) {W : List Block} (r : Result Narrowed Refusal) → Wide (shape_of s.x) W → Wide (shape_of s.y) W
       → PairAccepted s.x s.y → HasRoom s m → narrow_any_case.Promise s m m' r
-      → (r ≡ Narrowed.Narrow) × (new_shape s.x m'.out_x ≡ shape_of s.x) × (new_shape s.y m'.out_y ≡ shape_of s.y)
+      → (r ≡ (Ok Narrowed.Narrow)) × (new_shape s.x m'.out_x ≡ shape_of s.x) × (new_shape s.y m'.out_y ≡ shape_of s.y)
   -- "Kind 4 and the sweep answer as before", with regard to case: of N
   -- and n the sweep says cannot and kind 4 none, where kind 5 narrows
-  pub as_before : (out out' : List ℕ) (m m' n n' : NarrowMemory) (r : Swept) (u q : Narrowed)
+  pub as_before : (out out' : List ℕ) (m m' n n' : NarrowMemory) (r : Result Swept Refusal) (u q : Result Narrowed Refusal)
       → sweep.Promise units out out' r → narrow_exact.Promise units n n' u → narrow_any_case.Promise units m m' q
-      → 2 ≤ length out → HasRoom units n → HasRoom units m → (r ≡ Swept.Cannot 1) × (u ≡ Narrowed.None) × (q ≡ Narrowed.Narrow)
+      → 2 ≤ length out → HasRoom units n → HasRoom units m → (r ≡ Ok (Swept.Cannot 1)) × (u ≡ (Ok Narrowed.None)) × (q ≡ (Ok Narrowed.Narrow))
   -- "Demands 2 and 3 include kind 5 with its own pairs" (`any_case`); and what such rules ask of texts
   pub beside_exact : BesideExact narrow_any_case.Promise
   pub asks_any_case : (t : Rule) (text : ℕ → List ℕ) → t.kind ≡ any_case_kind → Keeps t text ↔ AnyCase (text t.a) (text t.b)
   -- "Refusals: none new": what the call of kind 5 is refused for is what that of kind 4 is refused for
   pub none_new : (s : Two) (m m' : NarrowMemory) (q : Refusal)
-      → narrow_any_case.Promise s m m' (Narrowed.Refused q) ↔ narrow_exact.Promise s m m' (Narrowed.Refused q)
+      → narrow_any_case.Promise s m m' (Err q) ↔ narrow_exact.Promise s m m' (Err q)
   -- "7 lets kind 5 pass": a rule of kind 5 is right exactly if it were with kind 0, and none of a later kind is
   pub five_right : (counts : List ℕ) (a b c : ℕ) → RightRule counts (rule_with 5 a b c) ↔ RightRule counts (rule_with 0 a b c)
   pub six_wrong : (counts : List ℕ) (t : Rule) → last_kind < t.kind → RightRule counts t → ⊥

@@ -1,11 +1,12 @@
 -- Equality's second pass: rows from the ends, one after the other, and what the two shapes' blocks are given on the
 -- way.
-use Rattle.std.specs.Prelude.{◌≡◌, List, ℕ, ◌+◌, ◌≤◌, ◌<◌, get_or, take}
+use Rattle.std.specs.Prelude.{◌≡◌, List, ℕ, ◌+◌, ◌≤◌, ◌<◌, length, get_or, take}
+use Rattle.sets.specs.declared.Set.{Set}
 use Rattle.sets.specs.Set.{set_of, Exactly}
 use Rattle.shapes.specs.Shape.{Block, no_block, total, block_count}
 use Rattle.shapes.specs.Lent.{shape_of}
 use Rattle.pads.specs.Pad.{PadPath, padded_at, UpToEnd}
-use Rattle.rows.specs.Row.{row_in, row_count}
+use Rattle.rows.specs.Row.{row_in}
 use Rattle.row_paths.specs.Rows.{Quits, Takes, From, Seen, Gives}
 use Rattle.back_rows.specs.declared.Gathered.{Gathered}
 use Rattle.back_rows.specs.Rows.{GatheredAt}
@@ -25,14 +26,11 @@ pub record EndBack (pad : ℕ) (y : List ℕ) (U f : ℕ) (r : Gathered) : Type 
       → GatheredAt X (padded_at pad (shape_of y)) U (total (shape_of y)) U (U + 1) r
 
 -- Room for the rows of both.
-pub record Roomed (x y zones ends slots mines rows own others : List ℕ) : Type 0 where
-  pub zones_long : block_count y ≤ row_count zones
-  pub ends_long : block_count y ≤ row_count ends
-  pub slots_long : block_count y ≤ row_count slots
-  pub mines_long : block_count x ≤ row_count mines
-  pub rows_long : total (shape_of x) < row_count rows
-  pub own_long : block_count x ≤ row_count own
-  pub others_long : block_count y ≤ row_count others
+pub record Roomed (x y : List ℕ) (mines rows own others : List Set) : Type 0 where
+  pub mines_long : block_count x ≤ length mines
+  pub rows_long : total (shape_of x) < length rows
+  pub own_long : block_count x ≤ length own
+  pub others_long : block_count y ≤ length others
 
 -- X and Y with the padding behind them, and their ends.
 abbrev pub ReadBoth : ℕ → ((ℕ → Block) → (ℕ → Block) → ℕ → ℕ → Type 0) → List ℕ → List ℕ → Type 0
@@ -44,7 +42,7 @@ GivesTo pad x y h l c = ReadBoth pad (λ X Y U W. Gives X Y U W (total (take h (
 
 -- The blocks of x from block i on, which starts at p: what is gathered, the characters of each of them, and those of
 -- the blocks of y.
-pub record PassFrom (pad : ℕ) (x y : List ℕ) (i p : ℕ) (g : Gathered) (moved : ℕ) (own others : List ℕ) : Type 0 where
+pub record PassFrom (pad : ℕ) (x y : List ℕ) (i p : ℕ) (g : Gathered) (moved : ℕ) (own others : List Set) : Type 0 where
   pub place : p ≡ total (take i (shape_of x))
   pub stage : ℕ
   pub gathered : ReadBoth pad (λ X Y U W. GatheredAt X Y U W p stage g) x y
@@ -54,7 +52,7 @@ pub record PassFrom (pad : ℕ) (x y : List ℕ) (i p : ℕ) (g : Gathered) (mov
 
 -- What sets of positions tell of the shape x beside y: where its runs end early, where it takes a character, and each
 -- block's characters.
-pub record SideTold (pad : ℕ) (x y : List ℕ) (quit moved : ℕ) (chars : List ℕ) : Type 0 where
+pub record SideTold (pad : ℕ) (x y : List ℕ) (quit moved : ℕ) (chars : List Set) : Type 0 where
   pub quits : ReadBoth pad (λ X Y U W. Exactly quit (Seen 0 (Quits X Y U W))) x y
   pub moves : ReadBoth pad (λ X Y U W. Exactly moved (Seen 0 (Takes X Y U W))) x y
   pub gives : (h : ℕ) → h < block_count x → Exactly (row_in chars h) (GivesTo pad x y h 0)

@@ -7,6 +7,7 @@ use native.Mathlib.Omega.{arith}
 use lib.ListN.{take}
 use Rattle.bases.specs.Base.{Meets}
 use Rattle.plain.proofs.Plain.{lt_or_le}
+use Rattle.sets.specs.declared.Set.{Set}
 use Rattle.sets.specs.Set.{Exactly}
 use Rattle.sets.proofs.Exact.{exactly_as, exactly_at}
 use Rattle.shapes.specs.Shape.{Block, total, block_count}
@@ -33,7 +34,7 @@ entered_first pad X Y j (start e f) = f
 entered_first pad X Y j (Entered.ended h l e p) = let r = (ended pad X).room h (padded_free pad X h l) in absurd (omega arith)
 entered_first pad X Y j (taken h l e f r m p) = absurd (omega arith)
 
-pub pass_none : (pad : ℕ) {x y mines rows : List ℕ} {s : ℕ} → Exactly s (λ e. e ≡ 0) → PassTo pad x y 0 0 mines rows s
+pub pass_none : (pad : ℕ) {x y : List ℕ} {mines rows : List Set} {s : ℕ} → Exactly s (λ e. e ≡ 0) → PassTo pad x y 0 0 mines rows s
 pass_none pad {x} {y} v = record {
   place = sym (total_zero (shape_of x));
   mine = λ h l. absurd (omega arith);
@@ -41,7 +42,7 @@ pass_none pad {x} {y} v = record {
   enter = exactly_as (λ j e. start refl e) (entered_first pad (shape_of x) (shape_of y)) v;
 }
 
-pub pass_more : {pad : ℕ} {x y mines mines' rows rows' : List ℕ} {Z E : ℕ → ℕ} {k i p s r mine waits : ℕ} {b : Block} → i < block_count x → b ≡ block_at x i → Zones (padded_at pad (shape_of y)) Z E k
+pub pass_more : {pad : ℕ} {x y : List ℕ} {mines mines' rows rows' : List Set} {Z E : ℕ → ℕ} {k i p s r mine waits : ℕ} {b : Block} → i < block_count x → b ≡ block_at x i → Zones (padded_at pad (shape_of y)) Z E k
     → Exactly mine (λ q. Meets b.base (slot_at (shape_of y) q).base) → Shares (padded_at pad (shape_of y)) b.base mine waits → PassTo pad x y i p mines rows s → PutRow mines i mine mines'
     → Follows Z E k mine waits p b s (λ X Y. BlockRows X Y p b rows' r) → RowsKept p rows rows' → PassTo pad x y (i + 1) (p + b.upper) mines' rows' r
 pass_more {pad} {x} {y} {mines} {mines'} {rows} {rows'} {i = i} {p = p} {s = s} {mine = mine} {b = b} l d z m v t u f w =
@@ -61,7 +62,7 @@ pass_more {pad} {x} {y} {mines} {mines'} {rows} {rows'} {i = i} {p = p} {s = s} 
       enter = got.next_is;
     }
 
-pub pass_all : {pad : ℕ} {x y mines rows rows' : List ℕ} {i p s r : ℕ} → block_count x ≤ i → PassTo pad x y i p mines rows s
+pub pass_all : {pad : ℕ} {x y : List ℕ} {mines rows rows' : List Set} {i p s r : ℕ} → block_count x ≤ i → PassTo pad x y i p mines rows s
     → Exactly r (Trails (padded_at pad (shape_of y)) pad s) → PutRow rows p r rows' → Pass pad x y mines rows' r
 pass_all {pad} {x} {y} {mines} {rows} {rows'} {i = i} {p = p} {s = s} {r = r} l t v u =
     let X : ℕ → Block = padded_at pad (shape_of x) in

@@ -14,14 +14,14 @@ use Rattle.row_paths.specs.Rows.{Entered}
 
 -- The first i blocks of the shape x beside the shape y, each with the padding behind it: their rows, where their bases
 -- meet Y's, and what the next position p is entered by.
-pub record PassTo (pad : ℕ) (x y : List ℕ) (i p : ℕ) (mines rows : List ℕ) (s : ℕ) : Type 0 where
+pub record PassTo (pad : ℕ) (x y : List ℕ) (i p : ℕ) (mines rows : List Set) (s : ℕ) : Type 0 where
   pub place : p ≡ total (take i (shape_of x))
   pub mine : (h : ℕ) → h < i → Exactly (row_in mines h) (λ q. Meets (block_at x h).base (slot_at (shape_of y) q).base)
   pub row : (h : ℕ) → h < p → Exactly (row_in rows h) (λ j. PadPath (padded_at pad (shape_of x)) (padded_at pad (shape_of y)) h j 0 0)
   pub enter : Exactly s (Entered (padded_at pad (shape_of x)) (padded_at pad (shape_of y)) p)
 
 -- All of them.
-pub record Pass (pad : ℕ) (x y mines rows : List ℕ) (last : ℕ) : Type 0 where
+pub record Pass (pad : ℕ) (x y : List ℕ) (mines rows : List Set) (last : ℕ) : Type 0 where
   pub mine : (h : ℕ) → h < block_count x → Exactly (row_in mines h) (λ q. Meets (block_at x h).base (slot_at (shape_of y) q).base)
   pub row : (h : ℕ) → h ≤ total (shape_of x) → Exactly (row_in rows h) (λ j. PadPath (padded_at pad (shape_of x)) (padded_at pad (shape_of y)) h j 0 0)
   pub last_is : Exactly last (λ j. PadPath (padded_at pad (shape_of x)) (padded_at pad (shape_of y)) (total (shape_of x)) j 0 0)

@@ -1,10 +1,10 @@
 -- Narrowing two lent shapes under equality, from what the two passes tell. Assumes nothing.
-use mathlib.Core.Path.{◌≡◌, refl, sym, ap, ◌∙◌, subst}
+use mathlib.Core.Path.{◌≡◌, refl, sym, subst}
 use mathlib.Core.Bool.{Bool, true, false, true≢false, false≢true}
 use mathlib.Core.List.{List}
 use Prim.Native.Nat.{ℕ, ◌^◌, ◌≤◌, ◌<◌}
 use native.Mathlib.Omega.{arith}
-use lib.ListN.{length, get_or, take, replicate, length-replicate}
+use lib.ListN.{length, get_or, take}
 use Rattle.bases.specs.Base.{Holds}
 use Rattle.sets.specs.Set.{Exactly}
 use Rattle.sets.proofs.Exact.{exactly_one, one_exactly}
@@ -21,6 +21,7 @@ use Rattle.pads.specs.Collect.{Collected}
 use Rattle.pads.proofs.But.{but_nothing, nothing_but, but_blanks, blanks_but}
 use Rattle.pads.proofs.Paths.{turn_pad}
 use Rattle.pads.proofs.Tight.{equal_none, equal_hull_lem, some_first}
+use Rattle.sets.specs.declared.Set.{Set}
 use Rattle.rows.specs.Row.{row_in}
 use Rattle.row_blocks.specs.Blocks.{LengthBy, SomeLength, ToldBy, ToldTo}
 use Rattle.row_blocks.proofs.Out.{narrowed, narrowed_size, narrowed_at, narrowed_out}
@@ -34,15 +35,11 @@ use Rattle.pairs.specs.Narrow.{Narrows, NarrowAnswer}
 abbrev pub Joined : ℕ → List ℕ → List ℕ → Type 0
 Joined pad x y = PadPath (padded_at pad (shape_of x)) (padded_at pad (shape_of y)) (total (shape_of x)) (total (shape_of y)) 0 0
 
--- numbers that are all 0
-pub blank_long : {w : List ℕ} (n : ℕ) → w ≡ replicate n 0 → w ≡ replicate (length w) 0
-blank_long {w} n e = e ∙ ap (λ (k : ℕ). replicate k 0) (sym (ap length e ∙ length-replicate n 0))
-
 -- ---- one side
 
 module _ {pad : ℕ} {x y : List ℕ} (wx : Whole x) (wy : Whole y) (p : Joined pad x y) where
   -- each of its blocks has some length
-  pub lengths : {quit moved : ℕ} {chars : List ℕ} → SideTold pad x y quit moved chars → SomeLength quit moved x (block_count x)
+  pub lengths : {quit moved : ℕ} {chars : List Set} → SideTold pad x y quit moved chars → SomeLength quit moved x (block_count x)
   lengths {quit} {moved} t i h =
       let l : i < length (shape_of x) = let e = shape_length x in omega arith in
       let s = some_first pad (shape_of x) (shape_of y) wx.sound wy.sound p i l in (
@@ -51,7 +48,7 @@ module _ {pad : ℕ} {x y : List ℕ} (wx : Whole x) (wy : Whole y) (p : Joined 
             (some_length (padded_block pad (shape_of x) i l) (all_at no_block wx.sound i l).ordered t.quits t.moves s.1),
       )
 
-  pub side_collected : {quit moved : ℕ} {chars o o' : List ℕ} (room : length x ≤ length o) → SideTold pad x y quit moved chars → (s : ToldTo chars quit moved x (block_count x) o o') → (i : ℕ) → i < length (shape_of x)
+  pub side_collected : {quit moved : ℕ} {chars : List Set} {o o' : List ℕ} (room : length x ≤ length o) → SideTold pad x y quit moved chars → (s : ToldTo chars quit moved x (block_count x) o o') → (i : ℕ) → i < length (shape_of x)
       → Collected (padded_at pad (shape_of x)) (padded_at pad (shape_of y)) (total (shape_of x)) (total (shape_of y)) (total (take i (shape_of x))) (get_or (shape_of x) i no_block) (get_or (narrowed x o o' wx.blocks room s) i no_block)
   side_collected {quit} {moved} {chars} {o} {o'} room t s i h =
       let small : i < block_count x = let e = shape_length x in omega arith in
@@ -63,7 +60,7 @@ module _ {pad : ℕ} {x y : List ℕ} (wx : Whole x) (wy : Whole y) (p : Joined 
 
 -- ---- both sides
 
-pub both_of : {pad : ℕ} {x y : List ℕ} → Whole x → Whole y → Joined pad x y → {ox oy ox' oy' own others : List ℕ} {stops takes quit moved : ℕ} → length x ≤ length ox → length y ≤ length oy
+pub both_of : {pad : ℕ} {x y : List ℕ} → Whole x → Whole y → Joined pad x y → {ox oy ox' oy' : List ℕ} {own others : List Set} {stops takes quit moved : ℕ} → length x ≤ length ox → length y ≤ length oy
     → SideTold pad x y stops takes own → SideTold pad y x quit moved others → ToldTo own stops takes x (block_count x) ox ox' → ToldTo others quit moved y (block_count y) oy oy'
     → ((k : ℕ) → get_or ox' k 0 < 2 ^ 64) → ((k : ℕ) → get_or oy' k 0 < 2 ^ 64) → Narrows (But pad) x y ox oy ox' oy'
 both_of {pad} {x} {y} wx wy p {ox} {oy} {ox'} {oy'} rx ry tx ty sx sy fx fy = record {
@@ -79,7 +76,7 @@ both_of {pad} {x} {y} wx wy p {ox} {oy} {ox'} {oy'} rx ry tx ty sx sy fx fy = re
 
 -- ---- the answers
 
-pub says_none : {pad : ℕ} {x y : List ℕ} {ox oy mines rows : List ℕ} {last m : ℕ} → Whole x → Whole y → Pass pad x y mines rows last → m ≡ total (shape_of y) → (Holds last m → ⊥) → NarrowAnswer (But pad) x y ox oy ox oy false
+pub says_none : {pad : ℕ} {x y ox oy : List ℕ} {mines rows : List Set} {last m : ℕ} → Whole x → Whole y → Pass pad x y mines rows last → m ≡ total (shape_of y) → (Holds last m → ⊥) → NarrowAnswer (But pad) x y ox oy ox oy false
 says_none {pad} {x} {y} {last = last} wx wy t e n = record {
   both = λ z. absurd (false≢true z);
   neither = λ z. record {
@@ -89,7 +86,7 @@ says_none {pad} {x} {y} {last = last} wx wy t e n = record {
   };
 }
 
-pub joined_of : {pad : ℕ} {x y : List ℕ} {mines rows : List ℕ} {last m : ℕ} → Pass pad x y mines rows last → m ≡ total (shape_of y) → Holds last m → Joined pad x y
+pub joined_of : {pad : ℕ} {x y : List ℕ} {mines rows : List Set} {last m : ℕ} → Pass pad x y mines rows last → m ≡ total (shape_of y) → Holds last m → Joined pad x y
 joined_of {x = x} {y = y} {last = last} t e h = t.last_is.so (total (shape_of y)) (subst (Holds last) e h)
 
 pub says_some : {R : List ℕ → List ℕ → Type 0} {x y ox oy ox' oy' : List ℕ} → Narrows R x y ox oy ox' oy' → NarrowAnswer R x y ox oy ox' oy' true

@@ -1,2 +1,2 @@
--- Narrowing under equality but for padding, in lent room: both passes, then both outputs.
+-- Narrowing under equality but for padding: both passes, then both outputs.
 pub mod Equal

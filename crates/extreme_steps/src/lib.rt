@@ -14,7 +14,7 @@ ghost use Rattle.extreme_steps.specs.Code.{char_in, codes_below, codes_onward, r
 use sets::Set;
 use shapes::Block;
 
-// Which text is wanted.
+// Which text is wanted. What differs by it is a line in each function below that matches on it.
 #[derive(Clone, Copy)]
 pub enum Direction {
     Least,
@@ -73,29 +73,16 @@ fn char_of(d: Direction, base: Set) -> u8
 fn count_of(first: bool, b: Block) -> u64
     ensures { result ≡ takes_of first (meant b) }
 {
-    if first {
-        return b.upper;
-    }
-    b.lower
+    if first { b.upper } else { b.lower }
 }
 
 // The successor once c is taken.
 fn onward(d: Direction, first: bool, c: u8) -> Successor
     ensures { result ≡ onwards d first c }
 {
-    match d {
-        Direction::Least => {
-            if first {
-                return Successor::Above(c);
-            }
-            Successor::Below(c)
-        }
-        Direction::Greatest => {
-            if first {
-                return Successor::Below(c);
-            }
-            Successor::Above(c)
-        }
+    match (d, first) {
+        (Direction::Least, true) | (Direction::Greatest, false) => Successor::Above(c),
+        (Direction::Least, false) | (Direction::Greatest, true) => Successor::Below(c),
     }
 }
 
@@ -127,10 +114,10 @@ pub fn codes_onward(k: Choice, below: u64) -> u64
     ensures { result ≡ codes_onward k below }
 {
     if k.count == 0 {
-        return below;
+        below
+    } else {
+        codes_below(k.successor)
     }
-    let s = k.successor;
-    codes_below(s)
 }
 
 // The character that a successor is just above or just below.
@@ -139,7 +126,6 @@ pub fn char_in(s: Successor) -> u8
 {
     match s {
         Successor::End => 0,
-        Successor::Above(c) => c,
-        Successor::Below(c) => c,
+        Successor::Above(c) | Successor::Below(c) => c,
     }
 }

@@ -1,9 +1,9 @@
 -- How the text is written, run by run, from its end. Assumes nothing.
 use mathlib.Core.Path.{◌≡◌, refl, sym, ap, ap₂, ◌∙◌}
-use mathlib.Core.List.{List, [], ◌∷◌, ◌++◌, append-nil, append_assoc}
+use mathlib.Core.List.{List, [], ◌∷◌, ◌++◌, append_assoc}
 use Prim.Native.Nat.{ℕ, zero, suc, ◌+◌, ◌-◌, ◌≤◌}
 use native.Mathlib.Omega.{arith}
-use lib.ListN.{length, take, drop, replicate, length-append, length-replicate, length-take, length-drop, drop_of_length-le, take-append-drop}
+use lib.ListN.{length, take, drop, replicate, length-append, length-replicate, length-take, length-drop, take-append-drop}
 use lib.Seq.{drop_at, drop-drop, take-append-le}
 use Rattle.plain.specs.All.{All}
 use Rattle.shapes.specs.Shape.{Block, Small, text_of}
@@ -16,12 +16,6 @@ use Rattle.extreme_steps.specs.Code.{char_in, run_of, text_from}
 use Rattle.extremes.proofs.Best.{runs_fill}
 
 -- ---- one run in its place
-
--- a part that holds v up to its length
-pub filled : (p q : List ℕ) (v i : ℕ) → i ≡ length p → q ≡ replicate i v ++ drop i p → q ≡ replicate (length p) v
-filled p q v i e h =
-    let past : length p ≤ i = omega arith in
-    h ∙ ap (λ (l : List ℕ). replicate i v ++ l) (drop_of_length-le p past) ∙ append-nil (replicate i v) ∙ ap (λ (n : ℕ). replicate n v) e
 
 pub put_some : (at count v w : ℕ) (out q : List ℕ) → at + count ≤ length out → w ≡ v → q ≡ replicate (length (take (at + count - at) (drop at out))) w
     → take at out ++ (q ++ drop (at + count - at) (drop at out)) ≡ take at out ++ (replicate count v ++ drop (at + count) out)

@@ -3,36 +3,22 @@
 
 #![tactic(auto)]
 
-ghost use Rattle.std.specs.Prelude.{◌≡◌, ◌++◌, ◌+◌, ◌≤◌, ◌<◌, length, take, drop, replicate};
+ghost use Rattle.std.specs.Prelude.{◌≡◌, ◌++◌, ◌+◌, ◌≤◌, length, take, drop};
 ghost use Rattle.shapes.specs.Lent.{shape_of, Accepted};
 ghost use Rattle.extreme_steps.specs.Steps.{extreme};
 ghost use Rattle.extreme_steps.specs.Code.{run_of};
 ghost use Rattle.extremes.specs.Extreme.{TextWritten, ExtremePromise};
 
-use answers::{Checked, Refusal, Written};
+use answers::Refusal;
 use extreme_steps::{Choice, Direction, Successor};
-
-// Writes v at every place of a part.
-fn fill(part: &mut [u8], v: u8)
-    ensures { part.new ≡ replicate (length part.old) v }
-{
-    let n = part.len();
-    let mut i = 0;
-    while i < n {
-        part[i] = v;
-        i += 1;
-    }
-}
 
 // Writes a choice's run at a place of the output.
 fn put_run(k: Choice, out: &mut [u8], at: usize)
     requires { at + k.count ≤ length out.old }
     ensures { out.new ≡ take at out.old ++ (run_of k ++ drop (at + k.count) out.old) }
 {
-    let s = k.successor;
-    let c = extreme_steps::char_in(s);
     let end = at + k.count as usize;
-    fill(&mut out[at..end], c);
+    out[at..end].fill(extreme_steps::char_in(k.successor));
 }
 
 // The length of the text: what the blocks choose, from the last to the first, counted.
@@ -42,9 +28,7 @@ fn length_of(d: Direction, shape: &[u64]) -> usize
 {
     let mut below = extreme_steps::codes_below(Successor::End);
     let mut sum = 0;
-    let mut i = shape.len() / shapes::SIZE;
-    while 0 < i {
-        i -= 1;
+    for i in (0..shape.len() / shapes::SIZE).rev() {
         let k = extreme_steps::choose(d, shape, i, below);
         sum += k.count as usize;
         below = extreme_steps::codes_onward(k, below);
@@ -62,9 +46,7 @@ pub fn write_extreme(d: Direction, shape: &[u64], out: &mut [u8]) -> usize
     let n = length_of(d, shape);
     let mut below = extreme_steps::codes_below(Successor::End);
     let mut at = n;
-    let mut i = shape.len() / shapes::SIZE;
-    while 0 < i {
-        i -= 1;
+    for i in (0..shape.len() / shapes::SIZE).rev() {
         let k = extreme_steps::choose(d, shape, i, below);
         at -= k.count as usize;
         put_run(k, out, at);
@@ -74,29 +56,25 @@ pub fn write_extreme(d: Direction, shape: &[u64], out: &mut [u8]) -> usize
 }
 
 // The least or the greatest text of a shape.
-fn extreme_text(d: Direction, shape: &[u64], out: &mut [u8]) -> Written
+fn extreme_text(d: Direction, shape: &[u64], out: &mut [u8]) -> Result<usize, Refusal>
     ensures { ExtremePromise d shape.now out.old out.new result }
 {
-    match shape_checks::check_lent(shape, 1) {
-        Checked::Refused(r) => Written::Refused(r),
-        Checked::Sound => {
-            if out.len() < 250 {
-                return Written::Refused(Refusal::Output(0));
-            }
-            Written::Text(write_extreme(d, shape, out))
-        }
+    shape_checks::check_lent(shape, 1)?;
+    if out.len() < 250 {
+        return Err(Refusal::Output(0));
     }
+    Ok(write_extreme(d, shape, out))
 }
 
 // The least text that fits the shape.
-pub fn least_text(shape: &[u64], out: &mut [u8]) -> Written
+pub fn least_text(shape: &[u64], out: &mut [u8]) -> Result<usize, Refusal>
     ensures { ExtremePromise Direction.Least shape.now out.old out.new result }
 {
     extreme_text(Direction::Least, shape, out)
 }
 
 // The greatest text that fits the shape.
-pub fn greatest_text(shape: &[u64], out: &mut [u8]) -> Written
+pub fn greatest_text(shape: &[u64], out: &mut [u8]) -> Result<usize, Refusal>
     ensures { ExtremePromise Direction.Greatest shape.now out.old out.new result }
 {
     extreme_text(Direction::Greatest, shape, out)

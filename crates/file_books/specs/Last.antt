@@ -1,5 +1,5 @@
 -- What reading the rules to the end of a file answers.
-use Rattle.std.specs.Prelude.{◌≡◌, List, [], ◌∷◌, ℕ, ◌+◌, ◌≤◌, length}
+use Rattle.std.specs.Prelude.{◌≡◌, Result, Ok, Err, List, [], ◌∷◌, ℕ, ◌+◌, ◌≤◌, length}
 use Rattle.rules.specs.declared.Rule.{Rule}
 use Rattle.rules.specs.Rule.{numbers_of_all}
 use Rattle.file_lines.specs.declared.Heading.TheVariants.{Rules}
@@ -8,8 +8,7 @@ use Rattle.file_lines.specs.Book.{part, section}
 use Rattle.files.specs.Departs.{Departs}
 use Rattle.file_sections.specs.Parts.{AtFront}
 use Rattle.rules.specs.Limits.{most_rules}
-use Rattle.file_books.specs.declared.Last.{Last}
-use Rattle.file_books.specs.declared.Last.TheVariants.{Read as last-read, Departs as last-departs}
+use Rattle.file_sections.specs.declared.Departs.{Departs as Stop}
 
 -- the last section, and the last part of a file
 abbrev pub last_grammar : List Section
@@ -27,6 +26,6 @@ pub record LastIs (bytes rs rs' : List ℕ) (n : ℕ) : Type 0 where
   pub stored : AtFront (numbers_of_all rules) rs rs'
 
 -- (How many lines stand before the one that departs is bounded so that the line's number fits.)
-abbrev pub LastRead : List ℕ → List ℕ → List ℕ → Last → Type 0
-LastRead bytes rs rs' (last-read n) = LastIs bytes rs rs' n
-LastRead bytes rs rs' (last-departs i) = Departs last_grammar bytes (i + 1) × (i ≤ most_rules + 1)
+abbrev pub LastRead : List ℕ → List ℕ → List ℕ → Result ℕ Stop → Type 0
+LastRead bytes rs rs' (Ok n) = LastIs bytes rs rs' n
+LastRead bytes rs rs' (Err d) = Departs last_grammar bytes (d.0 + 1) × (d.0 ≤ most_rules + 1)

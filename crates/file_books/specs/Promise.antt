@@ -1,5 +1,6 @@
 -- What reading a book file promises.
-use Rattle.std.specs.Prelude.{◌≡◌, List, ℕ, length}
+use Rattle.std.specs.Prelude.{◌≡◌, Result, Ok, Err, List, ℕ, length}
+use Rattle.answers.specs.declared.Refusal.{Refusal}
 use Rattle.answers.specs.Told.{told}
 use Rattle.rules.specs.Rule.{numbers_of_all}
 use Rattle.shapes.specs.Lent.{words_of}
@@ -7,8 +8,6 @@ use Rattle.file_lines.specs.Book.{Book}
 use Rattle.files.specs.Departs.{FileAccepted, FileRefused}
 use Rattle.file_sections.specs.Parts.{AtFront}
 use Rattle.file_books.specs.declared.Sizes.{Sizes}
-use Rattle.file_books.specs.declared.Read.{Read}
-use Rattle.file_books.specs.declared.Read.TheVariants.{Book as is-book, Refused}
 
 -- How wide its blocks are said, and how many texts, blocks and rules a book has.
 abbrev pub sizes_of : Book → Sizes
@@ -24,6 +23,6 @@ pub record BookRead (file cs bs rs cs' bs' rs' : List ℕ) (z : Sizes) : Type 0 
   pub rules : AtFront (numbers_of_all book.rules) rs rs'
 
 -- After a refusal the outputs hold anything: they are the caller's own space for the book.
-abbrev pub ReadPromise : List ℕ → List ℕ → List ℕ → List ℕ → List ℕ → List ℕ → List ℕ → Read → Type 0
-ReadPromise file cs bs rs cs' bs' rs' (is-book z) = BookRead file cs bs rs cs' bs' rs' z
-ReadPromise file cs bs rs cs' bs' rs' (Refused r) = FileRefused file (told r)
+abbrev pub ReadPromise : List ℕ → List ℕ → List ℕ → List ℕ → List ℕ → List ℕ → List ℕ → Result Sizes Refusal → Type 0
+ReadPromise file cs bs rs cs' bs' rs' (Ok z) = BookRead file cs bs rs cs' bs' rs' z
+ReadPromise file cs bs rs cs' bs' rs' (Err r) = FileRefused file (told r)

@@ -1,25 +1,14 @@
 -- What the inner functions of reading a file answer.
-use Rattle.std.specs.Prelude.{◌≡◌, List, ◌∷◌, ◌++◌, ℕ, ◌*◌, ◌^◌, ◌≤◌, ◌<◌, length, get_or, take, drop}
+use Rattle.std.specs.Prelude.{◌≡◌, List, ◌∷◌, ◌++◌, ℕ, ◌*◌, ◌^◌, ◌≤◌, ◌<◌, length, get_or, take, drop, Option, Some, None}
 use Rattle.file_numerals.specs.Digits.{digits, decimal}
 use Rattle.file_numerals.specs.Read.{word_digits}
-use Rattle.file_numerals.specs.declared.Number.{Number}
-use Rattle.file_numerals.specs.declared.Number.TheVariants.{Is as is, Not as none}
 use Rattle.plain.specs.All.{All}
+use Rattle.rules.specs.declared.Rule.{Rule}
+use Rattle.sets.specs.declared.Set.{Set}
 use Rattle.sets.specs.Set.{set_of}
+use Rattle.shapes.specs.declared.Block.{Block}
 use Rattle.shapes.specs.Lent.{meant}
 use Rattle.file_lines.specs.declared.Width.{Width}
-use Rattle.file_lines.specs.declared.Found.{Found}
-use Rattle.file_lines.specs.declared.Found.TheVariants.{At, Nothing}
-use Rattle.file_lines.specs.declared.Two.{Two}
-use Rattle.file_lines.specs.declared.Two.TheVariants.{Is as two, Not as no_two}
-use Rattle.file_lines.specs.declared.NumberAt.{NumberAt}
-use Rattle.file_lines.specs.declared.NumberAt.TheVariants.{Is as number, Not as no_number}
-use Rattle.file_lines.specs.declared.RuleLine.{RuleLine}
-use Rattle.file_lines.specs.declared.RuleLine.TheVariants.{Is as rule, Not as no-rule}
-use Rattle.file_lines.specs.declared.BaseSaid.{BaseSaid}
-use Rattle.file_lines.specs.declared.BaseSaid.TheVariants.{Is as base, Not as no-base}
-use Rattle.file_lines.specs.declared.BlockLine.{BlockLine}
-use Rattle.file_lines.specs.declared.BlockLine.TheVariants.{Is as block, Not as no_block}
 use Rattle.file_lines.specs.Grammar.{Writable, RightBlock, RuleInGrammar, two_numbers, block_line, rule_line, head_line}
 
 -- no byte of t is b
@@ -32,9 +21,9 @@ pub record First (b : ℕ) (t : List ℕ) (i : ℕ) : Type 0 where
   pub there : get_or t i 0 ≡ b
   pub before : Without b (take i t)
 
-abbrev pub FoundIn : ℕ → List ℕ → Found → Type 0
-FoundIn b t (At i) = First b t i
-FoundIn b t Nothing = Without b t
+abbrev pub FoundIn : ℕ → List ℕ → Option ℕ → Type 0
+FoundIn b t (Some i) = First b t i
+FoundIn b t None = Without b t
 
 -- t is what `text` makes of x, and x is right
 abbrev pub Says : {X : Type 0} → (X → Type 0) → (X → List ℕ) → List ℕ → X → Type 0
@@ -52,31 +41,31 @@ pub record Opens {X : Type 0} (b : ℕ) (Right : X → Type 0) (text : X → Lis
 abbrev pub OpensNone : {X : Type 0} → ℕ → (X → Type 0) → (X → List ℕ) → List ℕ → Type 0
 OpensNone {X} b Right text t = (x : X) (after : List ℕ) → Right x → t ≡ text x ++ b ∷ after → ⊥
 
-abbrev pub HeadRead : List ℕ → ℕ → List ℕ → Number → Type 0
-HeadRead word most t (is n) = Says (λ (m : ℕ). m ≤ most) (head_line word) t n
-HeadRead word most t none = SaysNone (λ (m : ℕ). m ≤ most) (head_line word) t
+abbrev pub HeadRead : List ℕ → ℕ → List ℕ → Option ℕ → Type 0
+HeadRead word most t (Some n) = Says (λ (m : ℕ). m ≤ most) (head_line word) t n
+HeadRead word most t None = SaysNone (λ (m : ℕ). m ≤ most) (head_line word) t
 
 -- a number and the blank after it
 abbrev pub NumberFirst : List ℕ → ℕ → ℕ → Type 0
 NumberFirst t n m = Opens 32 Writable decimal t n m
 
-abbrev pub NumberRead : List ℕ → NumberAt → Type 0
-NumberRead t (number n m) = NumberFirst t n m
-NumberRead t no_number = OpensNone 32 Writable decimal t
+abbrev pub NumberRead : List ℕ → Option (ℕ × ℕ) → Type 0
+NumberRead t (Some p) = NumberFirst t p.0 p.1
+NumberRead t None = OpensNone 32 Writable decimal t
 
-abbrev pub TwoRead : List ℕ → Two → Type 0
-TwoRead t (two a b) = Writable a × Writable b × (t ≡ two_numbers a b)
-TwoRead t no_two = (a b : ℕ) → Writable a → Writable b → t ≡ two_numbers a b → ⊥
+abbrev pub TwoRead : List ℕ → Option (ℕ × ℕ) → Type 0
+TwoRead t (Some p) = Writable p.0 × Writable p.1 × (t ≡ two_numbers p.0 p.1)
+TwoRead t None = (a b : ℕ) → Writable a → Writable b → t ≡ two_numbers a b → ⊥
 
-abbrev pub RuleRead : List ℕ → RuleLine → Type 0
-RuleRead t (rule r) = Says RuleInGrammar rule_line t r
-RuleRead t no-rule = SaysNone RuleInGrammar rule_line t
+abbrev pub RuleRead : List ℕ → Option Rule → Type 0
+RuleRead t (Some r) = Says RuleInGrammar rule_line t r
+RuleRead t None = SaysNone RuleInGrammar rule_line t
 
 -- the digits of n words
-abbrev pub BaseRead : ℕ → List ℕ → BaseSaid → Type 0
-BaseRead n t (base s) = (set_of s < 2 ^ (n * 64)) × (t ≡ digits 16 (n * word_digits) (set_of s))
-BaseRead n t no-base = (b : ℕ) → t ≡ digits 16 (n * word_digits) b → ⊥
+abbrev pub BaseRead : ℕ → List ℕ → Option Set → Type 0
+BaseRead n t (Some s) = (set_of s < 2 ^ (n * 64)) × (t ≡ digits 16 (n * word_digits) (set_of s))
+BaseRead n t None = (b : ℕ) → t ≡ digits 16 (n * word_digits) b → ⊥
 
-abbrev pub BlockRead : Width → List ℕ → BlockLine → Type 0
-BlockRead w t (block b) = Says (RightBlock w) (block_line w) t (meant b)
-BlockRead w t no_block = SaysNone (RightBlock w) (block_line w) t
+abbrev pub BlockRead : Width → List ℕ → Option Block → Type 0
+BlockRead w t (Some b) = Says (RightBlock w) (block_line w) t (meant b)
+BlockRead w t None = SaysNone (RightBlock w) (block_line w) t

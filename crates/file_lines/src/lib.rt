@@ -2,14 +2,12 @@
 
 #![tactic(auto)]
 
-ghost use Rattle.std.specs.Prelude.{◌≡◌, ◌*◌, ◌≤◌, length, take};
-ghost use Rattle.plain.specs.Tells.{Tells};
+ghost use Rattle.std.specs.Prelude.{◌≡◌, ◌*◌, ◌≤◌, length};
 ghost use Rattle.file_lines.specs.Lines.{FoundIn, HeadRead, NumberRead, TwoRead, RuleRead, BaseRead, BlockRead};
 ghost use Rattle.file_lines.specs.Grammar.{said_words};
 ghost use Rattle.bases.specs.Base.{base_words};
 ghost use Rattle.file_numerals.specs.Read.{word_digits};
 
-use file_numerals::Number;
 use rules::Rule;
 use sets::Set;
 use shapes::Block;
@@ -33,141 +31,48 @@ pub enum Heading {
 pub const FILE_LIMIT: usize = 32768;
 
 // Where a byte stands first.
-#[derive(Clone, Copy)]
-pub enum Found {
-    At(usize),
-    Nothing,
-}
-
-// A number at the start of some bytes, and the place past the byte that ends it.
-#[derive(Clone, Copy)]
-pub enum NumberAt {
-    Is(u64, usize),
-    Not,
-}
-
-// Two numbers, a rule and a block, as a line has them.
-#[derive(Clone, Copy)]
-pub enum Two {
-    Is(u64, u64),
-    Not,
-}
-
-#[derive(Clone, Copy)]
-pub enum RuleLine {
-    Is(Rule),
-    Not,
-}
-
-#[derive(Clone, Copy)]
-pub enum BlockLine {
-    Is(Block),
-    Not,
-}
-
-// A base, as the digits of a line say it.
-#[derive(Clone, Copy)]
-pub enum BaseSaid {
-    Is(Set),
-    Not,
-}
-
-pub fn find(s: &[u8], b: u8) -> Found
+pub fn find(s: &[u8], b: u8) -> Option<usize>
     ensures { FoundIn b s.now result }
 {
-    let n = s.len();
-    let mut i = 0;
-    while i < n {
-        if s[i] == b {
-            return Found::At(i);
-        }
-        i += 1;
-    }
-    Found::Nothing
-}
-
-// Whether a line begins with a word.
-fn starts(line: &[u8], word: &[u8]) -> bool
-    ensures { Tells result (take (length word.now) line.now ≡ word.now) }
-{
-    let n = word.len();
-    if line.len() < n {
-        return false;
-    }
-    let mut i = 0;
-    while i < n {
-        if line[i] != word[i] {
-            return false;
-        }
-        i += 1;
-    }
-    true
+    s.iter().position(|c| *c == b)
 }
 
 // A section's word and its count.
-pub fn read_head(line: &[u8], word: &[u8], most: u64) -> Number
+pub fn read_head(line: &[u8], word: &[u8], most: u64) -> Option<u64>
     requires { most ≤ 65535 }
     ensures { HeadRead word.now most line.now result }
 {
-    if starts(line, word) {
-        let k = word.len();
-        match file_numerals::read_decimal(&line[k..]) {
-            Number::Not => Number::Not,
-            Number::Is(n) => {
-                if most < n {
-                    return Number::Not;
-                }
-                Number::Is(n)
-            }
-        }
-    } else {
-        Number::Not
-    }
+    let n = file_numerals::read_decimal(line.strip_prefix(word)?)?;
+    if n <= most { Some(n) } else { None }
 }
 
-// A decimal and a blank at the start of a part.
-fn read_number(part: &[u8]) -> NumberAt
+// A decimal and a blank at the start of a part: the number, and the place past the blank.
+fn read_number(part: &[u8]) -> Option<(u64, usize)>
     ensures { NumberRead part.now result }
 {
-    match find(part, b' ') {
-        Found::Nothing => NumberAt::Not,
-        Found::At(i) => match file_numerals::read_decimal(&part[..i]) {
-            Number::Not => NumberAt::Not,
-            Number::Is(n) => NumberAt::Is(n, i + 1),
-        },
-    }
+    let i = find(part, b' ')?;
+    let n = file_numerals::read_decimal(&part[..i])?;
+    Some((n, i + 1))
 }
 
 // Two decimals with a blank.
-fn read_two(part: &[u8]) -> Two
+fn read_two(part: &[u8]) -> Option<(u64, u64)>
     ensures { TwoRead part.now result }
 {
-    match read_number(part) {
-        NumberAt::Not => Two::Not,
-        NumberAt::Is(a, m) => match file_numerals::read_decimal(&part[m..]) {
-            Number::Not => Two::Not,
-            Number::Is(b) => Two::Is(a, b),
-        },
-    }
+    let (a, m) = read_number(part)?;
+    let b = file_numerals::read_decimal(&part[m..])?;
+    Some((a, b))
 }
 
 // A rule's line: two numbers, each with a blank after it, and the last two.
-pub fn read_rule(line: &[u8]) -> RuleLine
+pub fn read_rule(line: &[u8]) -> Option<Rule>
     ensures { RuleRead line.now result }
 {
-    match read_number(line) {
-        NumberAt::Not => RuleLine::Not,
-        NumberAt::Is(kind, m) => match read_number(&line[m..]) {
-            NumberAt::Not => RuleLine::Not,
-            NumberAt::Is(a, k) => {
-                let rest = m + k;
-                match read_two(&line[rest..]) {
-                    Two::Not => RuleLine::Not,
-                    Two::Is(b, c) => RuleLine::Is(Rule { kind, a, b, c }),
-                }
-            }
-        },
-    }
+    let (kind, m) = read_number(line)?;
+    let (a, k) = read_number(&line[m..])?;
+    let rest = m + k;
+    let (b, c) = read_two(&line[rest..])?;
+    Some(Rule { kind, a, b, c })
 }
 
 // How many words of a base a line of this width says.
@@ -181,43 +86,32 @@ pub fn words(width: Width) -> usize
 }
 
 // A base of so many words, the last word first.
-fn read_base(part: &[u8], words: usize) -> BaseSaid
+fn read_base(part: &[u8], words: usize) -> Option<Set>
     requires words_le_base_words { words ≤ base_words }
     requires part_len { length part.now ≡ words * word_digits }
     ensures { BaseRead words part.now result }
 {
     let mut base = sets::none();
-    let mut i = 0;
-    while i < words {
+    for i in 0..words {
         let from = i * file_numerals::WORD_DIGITS;
         let to = from + file_numerals::WORD_DIGITS;
-        let Number::Is(w) = file_numerals::read_word(&part[from..to]) else {
-            return BaseSaid::Not;
-        };
+        let w = file_numerals::read_word(&part[from..to])?;
         base = sets::over(base, w);
-        i += 1;
     }
-    BaseSaid::Is(base)
+    Some(base)
 }
 
 // A block's line.
-pub fn read_block(width: Width, line: &[u8]) -> BlockLine
+pub fn read_block(width: Width, line: &[u8]) -> Option<Block>
     ensures { BlockRead width line.now result }
 {
     let n = words(width);
     let end = n * file_numerals::WORD_DIGITS;
-    if line.len() <= end {
-        return BlockLine::Not;
-    }
-    if line[end] != b' ' {
-        return BlockLine::Not;
+    if line.len() <= end || line[end] != b' ' {
+        return None;
     }
     let rest = end + 1;
-    match read_base(&line[..end], n) {
-        BaseSaid::Not => BlockLine::Not,
-        BaseSaid::Is(base) => match read_two(&line[rest..]) {
-            Two::Not => BlockLine::Not,
-            Two::Is(lower, upper) => BlockLine::Is(Block { base, lower, upper }),
-        },
-    }
+    let base = read_base(&line[..end], n)?;
+    let (lower, upper) = read_two(&line[rest..])?;
+    Some(Block { base, lower, upper })
 }

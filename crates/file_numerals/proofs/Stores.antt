@@ -6,7 +6,9 @@ use native.Mathlib.Omega.{arith}
 use native.Mathlib.Nat.{add-zero, add-suc, suc-add}
 use native.Mathlib.Numerals.{add-one}
 use lib.ListN.{length, get_or, take, drop, set}
-use lib.Seq.{sets, set_comm, take-suc, sets-eq}
+use lib.Seq.{sets, set_comm, take-suc, take_all, sets-eq}
+use borrow.Rule.Slice.PartMut.{put_mid}
+use Rattle.std.proofs.lemmas.Slice.{put_mid-paste}
 
 -- a run stored after another is one run
 pub sets_append : (vs us l : List ℕ) (i : ℕ) → sets l i (vs ++ us) ≡ sets (sets l i vs) (i + length vs) us
@@ -32,3 +34,9 @@ one_more l s at i h = sym
 -- a run from the start, and what stays past it
 pub sets_start : (vs l : List ℕ) → length vs ≤ length l → sets l 0 vs ≡ vs ++ drop (length vs) l
 sets_start vs l h = sets-eq vs l 0 (omega arith) ∙ ap (λ (k : ℕ). vs ++ drop k l) (let e : 0 + length vs ≡ length vs = omega arith in e)
+
+-- a copy over a part is a run from its start
+pub copied_in : (a k : ℕ) (xs ys zs : List ℕ) → ys ≡ zs → k ≡ length zs → a + k ≤ length xs → put_mid a k xs ys ≡ sets xs a zs
+copied_in a k xs ys zs e n h =
+    put_mid-paste a k xs ys zs k e refl n ∙ ap (λ (t : List ℕ). take a xs ++ t ++ drop (a + k) xs) (take_all k zs (omega arith))
+    ∙ ap (λ (j : ℕ). take a xs ++ zs ++ drop (a + j) xs) n ∙ sym (sets-eq zs xs a (omega arith))

@@ -7,101 +7,50 @@ ghost use Rattle.std.proofs.lemmas.List.Edits.{sets};
 ghost use Rattle.file_numerals.specs.Digits.{glyph as Digits·glyph, digits, decimal as Digits·decimal};
 ghost use Rattle.file_numerals.specs.Read.{DigitRead, DecimalRead, WordRead, word_digits};
 
-// What reading a number finds.
-#[derive(Clone, Copy)]
-pub enum Number {
-    Is(u64),
-    Not,
-}
-
-// The decimal digit that c is, or 10.
-fn decimal_digit(c: u8) -> u64
-    ensures { DigitRead 10 c result }
+// The digit below a base up to 16 that c is.
+fn digit(base: u64, c: u8) -> Option<u64>
+    requires { base ≤ 16 }
+    ensures { DigitRead base c result }
 {
-    if c < 48 {
-        return 10;
-    }
-    if 57 < c {
-        return 10;
-    }
-    (c - 48) as u64
-}
-
-// The hex digit that c is, or 16.
-fn hex_digit(c: u8) -> u64
-    ensures { DigitRead 16 c result }
-{
-    if c < 48 {
-        return 16;
-    }
-    if c <= 57 {
-        return (c - 48) as u64;
-    }
-    if c < 97 {
-        return 16;
-    }
-    if 102 < c {
-        return 16;
-    }
-    (c - 87) as u64
+    let d = match c {
+        b'0'..=b'9' => (c - b'0') as u64,
+        b'a'..=b'f' => (c - b'a') as u64 + 10,
+        _ => return None,
+    };
+    if d < base { Some(d) } else { None }
 }
 
 // A decimal up to 65,535, without needless zeros: the whole of a part.
-pub fn read_decimal(part: &[u8]) -> Number
+pub fn read_decimal(part: &[u8]) -> Option<u64>
     ensures { DecimalRead part.now result }
 {
     let n = part.len();
-    if n == 0 {
-        return Number::Not;
+    if n == 0 || 5 < n {
+        return None;
     }
-    if 5 < n {
-        return Number::Not;
+    let mut v = digit(10, part[0])?;
+    if v == 0 && 1 < n {
+        return None;
     }
-    let first = decimal_digit(part[0]);
-    if 9 < first {
-        return Number::Not;
+    for c in &part[1..] {
+        v = v * 10 + digit(10, *c)?;
     }
-    if first == 0 {
-        if 1 < n {
-            return Number::Not;
-        }
-        return Number::Is(0);
-    }
-    let mut v = first;
-    let mut i = 1;
-    while i < n {
-        let d = decimal_digit(part[i]);
-        if 9 < d {
-            return Number::Not;
-        }
-        v = v * 10 + d;
-        i += 1;
-    }
-    if 65535 < v {
-        return Number::Not;
-    }
-    Number::Is(v)
+    if v <= 65535 { Some(v) } else { None }
 }
 
 // How many hex digits a word of a base is.
 pub const WORD_DIGITS: usize = 16;
 
 // A word: so many lowercase hex digits.
-pub fn read_word(part: &[u8]) -> Number
+pub fn read_word(part: &[u8]) -> Option<u64>
     requires { length part.now ≡ word_digits }
     ensures { WordRead part.now result }
 {
     let mut v: u64 = 0;
-    let mut i = 0;
-    while i < WORD_DIGITS {
-        let d = hex_digit(part[i]);
-        if 15 < d {
-            return Number::Not;
-        }
-        v = v * 16 + d;
-        i += 1;
+    for c in part {
+        v = v * 16 + digit(16, *c)?;
     }
-    Number::Is(v)
+    Some(v)
 }
 
 fn glyph(d: u64) -> u8
@@ -109,9 +58,10 @@ fn glyph(d: u64) -> u8
     ensures { result ≡ Digits·glyph d }
 {
     if d < 10 {
-        return 48 + d as u8;
+        b'0' + d as u8
+    } else {
+        b'a' + (d - 10) as u8
     }
-    87 + d as u8
 }
 
 // How many digits n has in decimal.
@@ -134,10 +84,8 @@ pub fn put_digits(n: u64, base: u64, k: usize, out: &mut [u8], at: usize)
     requires k_in_bounds { at + k ≤ length out.old }
     ensures { out.new ≡ sets out.old at (digits base k n) }
 {
-    let mut i = k;
     let mut rest = n;
-    while 0 < i {
-        i -= 1;
+    for i in (0..k).rev() {
         out[at + i] = glyph(rest % base);
         rest /= base;
     }
@@ -160,11 +108,7 @@ pub fn put_bytes(bytes: &[u8], out: &mut [u8], at: usize) -> usize
     ensures value { result ≡ at + length bytes.now }
     ensures out_after { out.new ≡ sets out.old at bytes.now }
 {
-    let n = bytes.len();
-    let mut i = 0;
-    while i < n {
-        out[at + i] = bytes[i];
-        i += 1;
-    }
-    at + n
+    let end = at + bytes.len();
+    out[at..end].copy_from_slice(bytes);
+    end
 }

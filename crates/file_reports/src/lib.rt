@@ -69,9 +69,7 @@ fn put_base(base: Set, words: usize, out: &mut [u8], at: usize) -> usize
     ensures { Wrote out.old at (digits 16 (words * word_digits) (set_of base)) out.new result }
 {
     let mut end = at;
-    let mut i = words;
-    while 0 < i {
-        i -= 1;
+    for i in (0..words).rev() {
         let word = sets::word(base, i);
         file_numerals::put_digits(word, 16, file_numerals::WORD_DIGITS, out, end);
         end += file_numerals::WORD_DIGITS;
@@ -95,12 +93,9 @@ fn put_counts(counts: &[u64], out: &mut [u8], at: usize) -> usize
     ensures wrote { Wrote out.old at (joined (map decimal counts.now)) out.new result }
     ensures upper_bound { result ≤ at + length counts.now * number_room }
 {
-    let n = counts.len();
     let mut end = at;
-    let mut i = 0;
-    while i < n {
-        end = put_count(counts[i], out, end);
-        i += 1;
+    for n in counts {
+        end = put_count(*n, out, end);
     }
     end
 }
@@ -111,13 +106,10 @@ fn put_blocks(width: Width, blocks: &[u64], out: &mut [u8], at: usize) -> usize
     ensures wrote { Wrote out.old at (joined (map (block_line width) (shape_of blocks.now))) out.new result }
     ensures upper_bound { result ≤ at + block_count blocks.now * block_room }
 {
-    let n = blocks.len() / shapes::SIZE;
     let mut end = at;
-    let mut i = 0;
-    while i < n {
+    for i in 0..blocks.len() / shapes::SIZE {
         let b = shapes::block_at(blocks, i);
         end = put_block(width, b, out, end);
-        i += 1;
     }
     end
 }
@@ -166,30 +158,24 @@ fn put_group(text: TextRan, k: usize, out: &mut [u8], at: usize) -> usize
     ensures group_put { GroupPut text k out.old at out.new result }
     ensures upper_bound { result ≤ at + group_room }
 {
-    let group = text.group;
-    if group != k as u64 + 1 {
+    if text.group != k as u64 + 1 {
         return at;
     }
-    let ended = text.ended;
     let a = file_numerals::put_bytes(b"GROUP ", out, at);
-    let b = file_numerals::put_decimal(group, out, a);
-    put_ended(ended, out, b)
+    let b = file_numerals::put_decimal(text.group, out, a);
+    put_ended(text.ended, out, b)
 }
 
-// The lines of the groups of the first n texts, by number.
-fn put_groups(texts: [TextRan; rules::TEXTS], n: usize, out: &mut [u8], at: usize) -> usize
-    requires texts_len { length texts ≡ most_texts }
-    requires n_le_most_texts { n ≤ most_texts }
-    requires group_room_in_bounds { at + n * group_room ≤ length out.old }
-    ensures groups_put { GroupsPut (take n texts) out.old at out.new result }
-    ensures upper_bound { result ≤ at + n * group_room }
+// The lines of the groups of these texts, by number.
+fn put_groups(texts: &[TextRan], out: &mut [u8], at: usize) -> usize
+    requires texts_len { length texts.now ≤ most_texts }
+    requires group_room_in_bounds { at + length texts.now * group_room ≤ length out.old }
+    ensures groups_put { GroupsPut texts.now out.old at out.new result }
+    ensures upper_bound { result ≤ at + length texts.now * group_room }
 {
     let mut end = at;
-    let mut k = 0;
-    while k < n {
-        let text = texts[k];
-        end = put_group(text, k, out, end);
-        k += 1;
+    for (k, text) in texts.iter().enumerate() {
+        end = put_group(*text, k, out, end);
     }
     end
 }
@@ -209,7 +195,7 @@ pub fn write_ran(
     requires all { All (RightBlock width) (shape_of blocks.now) }
     ensures { RanReported (take (length counts.now) texts) (sheet_of width counts.now blocks.now) out.old out.new result }
 {
-    let head = put_groups(texts, counts.len(), out, 0);
+    let head = put_groups(&texts[..counts.len()], out, 0);
     put_sheet(width, counts, blocks, out, head)
 }
 
@@ -219,6 +205,6 @@ pub fn write_refused(refusal: Refusal, out: &mut [u8]) -> usize
     ensures { Reported (refused (told refusal)) out.old out.new result }
 {
     let a = file_numerals::put_bytes(b"REFUSED ", out, 0);
-    let b = file_numerals::put_decimal(answers::number(refusal), out, a);
-    put_pair(answers::text(refusal), answers::place(refusal), out, b)
+    let b = file_numerals::put_decimal(refusal.number(), out, a);
+    put_pair(refusal.text(), refusal.place(), out, b)
 }

@@ -1,6 +1,8 @@
 -- For any one file, output and work buffer, two permitted outcomes of running the file are equal: the answer, and every
 -- byte of the output and the work buffer.
 -- Assumes nothing.
+use Rattle.answers.specs.declared.Refusal.{Refusal}
+use Rattle.std.specs.Prelude.{Result, Ok, Err}
 use mathlib.Core.Path.{◌≡◌, sym, ap, ◌∙◌, subst}
 use mathlib.Core.List.{List, ◌++◌}
 use Prim.Native.Nat.{ℕ, ◌≤◌}
@@ -9,8 +11,6 @@ use Rattle.answers.specs.Told.{Told}
 use Rattle.answers.specs.Turns.{Turn, here, later, AllGood, in_turn}
 use Rattle.answers.proofs.Told.{told_one}
 use Rattle.answers.proofs.Turns.{OneOf, need_one, in_turn_one}
-use Rattle.answers.specs.declared.Written.{Written}
-use Rattle.answers.specs.declared.Written.TheVariants.{Text, Refused}
 use Rattle.shapes.specs.Lent.{words_of}
 use Rattle.books.specs.Refused.{BookAccepted}
 use Rattle.books.proofs.Refused.{of_book}
@@ -80,21 +80,21 @@ run_written_one {work = work} {out = out} {c = c} {m = m} p q =
     let same = same_book (λ k cs w r. ReportWritten k cs w r work out c m) p.accepted q.accepted q.written in
     report_one (λ v w d e. book_ends_one p.written.accepted d e) p.written.report same.report
 
-pub answer_one : (file : List ℕ) (work : ℕ) (out b c : List ℕ) (x y : Written) → FileAnswer file work out b x → FileAnswer file work out c y → (x ≡ y) × (b ≡ c)
-answer_one file work out b c (Text n) (Text m) p q = let e = run_written_one p q in (ap Text e.0, e.1)
-answer_one file work out b c (Text n) (Refused s) p q = absurd (run_file_not p.accepted p.written.accepted p.written.room q.0)
-answer_one file work out b c (Refused r) (Text m) p q = absurd (run_file_not q.accepted q.written.accepted q.written.room p.0)
-answer_one file work out b c (Refused r) (Refused s) p q = (ap Refused (told_one r s (run_refused_one p.0 q.0)), p.1 ∙ sym q.1)
+pub answer_one : (file : List ℕ) (work : ℕ) (out b c : List ℕ) (x y : Result ℕ Refusal) → FileAnswer file work out b x → FileAnswer file work out c y → (x ≡ y) × (b ≡ c)
+answer_one file work out b c (Ok n) (Ok m) p q = let e = run_written_one p q in (ap Ok e.0, e.1)
+answer_one file work out b c (Ok n) (Err s) p q = absurd (run_file_not p.accepted p.written.accepted p.written.room q.0)
+answer_one file work out b c (Err r) (Ok m) p q = absurd (run_file_not q.accepted q.written.accepted q.written.room p.0)
+answer_one file work out b c (Err r) (Err s) p q = (ap Err (told_one r s (run_refused_one p.0 q.0)), p.1 ∙ sym q.1)
 
-pub run_file_determined : (file out b c : List ℕ) (x y : Written) → FilePromise file out b x → FilePromise file out c y → (x ≡ y) × (b ≡ c)
+pub run_file_determined : (file out b c : List ℕ) (x y : Result ℕ Refusal) → FilePromise file out b x → FilePromise file out c y → (x ≡ y) × (b ≡ c)
 run_file_determined file out b c x y p q = answer_one file 63001 out b c x y p q
 
 -- the answer says what is left in a lent work buffer
-work_one : (x : Written) (work v w : List ℕ) → WorkLeft work v x → WorkLeft work w x → v ≡ w
-work_one (Text n) work v w p q = p ∙ sym q
-work_one (Refused r) work v w p q = p ∙ sym q
+work_one : (x : Result ℕ Refusal) (work v w : List ℕ) → WorkLeft work v x → WorkLeft work w x → v ≡ w
+work_one (Ok n) work v w p q = p ∙ sym q
+work_one (Err r) work v w p q = p ∙ sym q
 
-pub lent_determined : (file out work b c v w : List ℕ) (x y : Written) → LentPromise file out work b v x → LentPromise file out work c w y
+pub lent_determined : (file out work b c v w : List ℕ) (x y : Result ℕ Refusal) → LentPromise file out work b v x → LentPromise file out work c w y
     → (x ≡ y) × (b ≡ c) × (v ≡ w)
 lent_determined file out work b c v w x y p q =
     let one = answer_one file (length work) out b c x y p.0 q.0 in

@@ -1,4 +1,6 @@
 -- A file ends in one way, and what is left of a sound book can be written as wide as it came in. Assumes nothing.
+use Rattle.answers.specs.declared.Refusal.{Refusal}
+use Rattle.std.specs.Prelude.{Result, Ok, Err}
 use mathlib.Core.Path.{◌≡◌, sym, ap, ◌∙◌, subst, subst₂}
 use mathlib.Core.List.{List}
 use Prim.Native.Nat.{ℕ, ◌-◌, ◌*◌, ◌^◌, ◌≤◌, ◌<◌}
@@ -14,8 +16,6 @@ use Rattle.shapes.proofs.Numbers.{shape_words}
 use Rattle.answers.specs.Told.{Told}
 use Rattle.answers.specs.Turns.{here, later}
 use Rattle.answers.specs.declared.TextRan.{TextRan}
-use Rattle.answers.specs.declared.Written.{Written}
-use Rattle.answers.specs.declared.Written.TheVariants.{Text, Refused}
 use Rattle.hulls.proofs.Small.{within_below}
 use Rattle.books.specs.Refused.{BookRefused, BookAccepted}
 use Rattle.books.proofs.Refused.{book_one, book_not}
@@ -136,12 +136,12 @@ pub refused_book : {file : List ℕ} {b : Book} {work room : ℕ} {t : Told} →
     → ReportRefused b.sheet.counts (words_of b.sheet.blocks) (numbers_of_all b.rules) work room t → RunRefused file work room t
 refused_book {b = b} a p = later (b, a) (here (its_book a p))
 
-of_accepted : (file : List ℕ) (work : ℕ) (out out' : List ℕ) (b : Book) (r : Written) → FileAccepted file b
+of_accepted : (file : List ℕ) (work : ℕ) (out out' : List ℕ) (b : Book) (r : Result ℕ Refusal) → FileAccepted file b
     → BookAnswer b.sheet.width b.sheet.counts (words_of b.sheet.blocks) (numbers_of_all b.rules) work out out' r → FileAnswer file work out out' r
-of_accepted file work out out' b (Text n) a p = record { book = b; accepted = a; written = p }
-of_accepted file work out out' b (Refused s) a p = (refused_book a p.0, p.1)
+of_accepted file work out out' b (Ok n) a p = record { book = b; accepted = a; written = p }
+of_accepted file work out out' b (Err s) a p = (refused_book a p.0, p.1)
 
-pub file_of : (file cs bs rs : List ℕ) (work : ℕ) (out out' : List ℕ) (z : Sizes) (r : Written) → Ready file cs bs rs z
+pub file_of : (file cs bs rs : List ℕ) (work : ℕ) (out out' : List ℕ) (z : Sizes) (r : Result ℕ Refusal) → Ready file cs bs rs z
     → BookAnswer z.width (take z.texts cs) (take (z.blocks * block_size) bs) (take (z.rules * rule_size) rs) work out out' r → FileAnswer file work out out' r
 file_of file cs bs rs work out out' z r d p =
     of_accepted file work out out' d.book r d.accepted

@@ -1,5 +1,6 @@
 -- A run with a lent work buffer beside the run with one of its own: with 63,001 bytes or more they are the same; with
 -- fewer, 4 comes in the place of a report and of 5. And 5 comes only where nothing else is due. Assumes nothing.
+use Rattle.std.specs.Prelude.{Result, Ok, Err}
 use mathlib.Core.Path.{◌≡◌, refl, sym, ap, ◌∙◌}
 use mathlib.Core.List.{List, map}
 use Prim.Native.Nat.{ℕ, ◌≤◌, ◌<◌}
@@ -10,8 +11,6 @@ use Rattle.answers.specs.Told.{Told, tell, told}
 use Rattle.answers.specs.Turns.{here, later}
 use Rattle.answers.specs.declared.Refusal.{Refusal}
 use Rattle.answers.specs.declared.Refusal.TheVariants.{Work}
-use Rattle.answers.specs.declared.Written.{Written}
-use Rattle.answers.specs.declared.Written.TheVariants.{Text, Refused}
 use Rattle.shapes.specs.Lent.{words_of}
 use Rattle.shapes.proofs.Refused.{blocks_tells}
 use Rattle.books.specs.Refused.{BookRefused, BookAccepted}
@@ -37,13 +36,13 @@ refused_own {file = file} {work = work} {room = room} {t = t} h (later _ (later 
 refused_own h (later _ (here (its_book a (here p)))) = refused_book a (here (any_work h p))
 refused_own h (later _ (here (its_book a (later d p)))) = refused_book a (later (own_work d) p)
 
-answer_own : (file : List ℕ) (work : ℕ) (out out' : List ℕ) (r : Written) → 63001 ≤ work → FileAnswer file work out out' r → FileAnswer file 63001 out out' r
-answer_own file work out out' (Text n) h p =
+answer_own : (file : List ℕ) (work : ℕ) (out out' : List ℕ) (r : Result ℕ Refusal) → 63001 ≤ work → FileAnswer file work out out' r → FileAnswer file 63001 out out' r
+answer_own file work out out' (Ok n) h p =
     let w = p.written in
     record { book = p.book; accepted = p.accepted; written = record { accepted = own_work w.accepted; room = w.room; report = w.report } }
-answer_own file work out out' (Refused r) h p = (refused_own h p.0, p.1)
+answer_own file work out out' (Err r) h p = (refused_own h p.0, p.1)
 
-pub lent_as_own : (file out work b c w : List ℕ) (x y : Written) → 63001 ≤ length work → LentPromise file out work b w x → FilePromise file out c y
+pub lent_as_own : (file out work b c w : List ℕ) (x y : Result ℕ Refusal) → 63001 ≤ length work → LentPromise file out work b w x → FilePromise file out c y
     → (x ≡ y) × (b ≡ c)
 lent_as_own file out work b c w x y h p q = answer_one file 63001 out b c x y (answer_own file (length work) out b x h p.0) q
 
@@ -83,17 +82,17 @@ five_last (later _ (here (its_book {b = b} a (later d (here p))))) f = (b, a, d,
 -- ---- too little work
 
 -- 4 is what the lent run then answers, of a book that is accepted with enough
-answers_4 : (file out work b w : List ℕ) (x : Written) (k : Book) → length work < 63001 → LentPromise file out work b w x → FileAccepted file k
-    → BookAccepted k.sheet.counts (words_of k.sheet.blocks) (numbers_of_all k.rules) 63001 → x ≡ Refused Work
+answers_4 : (file out work b w : List ℕ) (x : Result ℕ Refusal) (k : Book) → length work < 63001 → LentPromise file out work b w x → FileAccepted file k
+    → BookAccepted k.sheet.counts (words_of k.sheet.blocks) (numbers_of_all k.rules) 63001 → x ≡ Err Work
 answers_4 file out work b w x k h p a g =
-    (answer_one file (length work) out b out x (Refused Work) p.0 (refused_book a (here (lacks_work h g)), refl)).0
+    (answer_one file (length work) out b out x (Err Work) p.0 (refused_book a (here (lacks_work h g)), refl)).0
 
-pub less_for_text : (file out work b c w : List ℕ) (x : Written) (n : ℕ) → length work < 63001 → LentPromise file out work b w x
-    → FilePromise file out c (Text n) → x ≡ Refused Work
+pub less_for_text : (file out work b c w : List ℕ) (x : Result ℕ Refusal) (n : ℕ) → length work < 63001 → LentPromise file out work b w x
+    → FilePromise file out c (Ok n) → x ≡ Err Work
 less_for_text file out work b c w x n h p q = answers_4 file out work b w x q.book h p q.accepted q.written.accepted
 
-pub less_for_five : (file out work b c w : List ℕ) (x : Written) (q : Refusal) → length work < 63001 → LentPromise file out work b w x
-    → FilePromise file out c (Refused q) → (told q).number ≡ 5 → x ≡ Refused Work
+pub less_for_five : (file out work b c w : List ℕ) (x : Result ℕ Refusal) (q : Refusal) → length work < 63001 → LentPromise file out work b w x
+    → FilePromise file out c (Err q) → (told q).number ≡ 5 → x ≡ Err Work
 less_for_five file out work b c w x q h p r f =
     let s = five_last r.0 f in
     answers_4 file out work b w x s.0 h p s.1 s.2
@@ -106,9 +105,9 @@ refused_same {file = file} {work = work} {room = room} {t = t} (later _ (here (i
 refused_same {file = file} {work = work} {room = room} {t = t} (later _ (later _ x6)) n = elim x6 [ ]
 refused_same (later _ (here (its_book a (later d (here p))))) n = absurd (n (number_of p.tells))
 
-pub other_refusals : (file out work b c w : List ℕ) (x : Written) (q : Refusal) → LentPromise file out work b w x
-    → FilePromise file out c (Refused q) → ((told q).number ≡ 5 → ⊥) → x ≡ Refused q
-other_refusals file out work b c w x q p r n = (answer_one file (length work) out b out x (Refused q) p.0 (refused_same r.0 n, refl)).0
+pub other_refusals : (file out work b c w : List ℕ) (x : Result ℕ Refusal) (q : Refusal) → LentPromise file out work b w x
+    → FilePromise file out c (Err q) → ((told q).number ≡ 5 → ⊥) → x ≡ Err q
+other_refusals file out work b c w x q p r n = (answer_one file (length work) out b out x (Err q) p.0 (refused_same r.0 n, refl)).0
 
 -- ---- the bytes of a report, whatever else is in the buffer
 

@@ -1,9 +1,8 @@
 -- What running a book file to its report promises, with a work buffer that is lent or with one of the call's own.
-use Rattle.std.specs.Prelude.{◌≡◌, List, [], ◌∷◌, ℕ, ◌≤◌, length}
+use Rattle.answers.specs.declared.Refusal.{Refusal}
+use Rattle.std.specs.Prelude.{◌≡◌, List, [], ◌∷◌, ℕ, ◌≤◌, length, Result, Ok, Err}
 use Rattle.answers.specs.Told.{Told, tell, told}
 use Rattle.answers.specs.Turns.{Turn, FirstDue, in_turn, need}
-use Rattle.answers.specs.declared.Written.{Written}
-use Rattle.answers.specs.declared.Written.TheVariants.{Text, Refused}
 use Rattle.shapes.specs.Lent.{words_of}
 use Rattle.pairs.specs.Narrow.{Cleared}
 use Rattle.books.specs.Refused.{BookAccepted, of_lent_book}
@@ -36,9 +35,9 @@ pub record ReportWritten (w : Width) (counts blocks rules : List ℕ) (work : �
 
 -- What is answered, and what is left in the output: a refusal carries number, text and place, and leaves the output as
 -- on entry.
-abbrev pub BookAnswer : Width → List ℕ → List ℕ → List ℕ → ℕ → List ℕ → List ℕ → Written → Type 0
-BookAnswer w counts blocks rules work out out' (Text n) = ReportWritten w counts blocks rules work out out' n
-BookAnswer w counts blocks rules work out out' (Refused r) = ReportRefused counts blocks rules work (length out) (told r) × (out' ≡ out)
+abbrev pub BookAnswer : Width → List ℕ → List ℕ → List ℕ → ℕ → List ℕ → List ℕ → Result ℕ Refusal → Type 0
+BookAnswer w counts blocks rules work out out' (Ok n) = ReportWritten w counts blocks rules work out out' n
+BookAnswer w counts blocks rules work out out' (Err r) = ReportRefused counts blocks rules work (length out) (told r) × (out' ≡ out)
 
 -- P holds of the book that the file is the writing of.
 pub data ItsBook (file : List ℕ) (P : Book → Type 0) : Type 0 where
@@ -71,19 +70,19 @@ pub record RunWritten (file : List ℕ) (work : ℕ) (out out' : List ℕ) (n : 
   pub written : ReportWritten book.sheet.width book.sheet.counts (words_of book.sheet.blocks) (numbers_of_all book.rules) work out out' n
 
 -- The same of a file.
-abbrev pub FileAnswer : List ℕ → ℕ → List ℕ → List ℕ → Written → Type 0
-FileAnswer file work out out' (Text n) = RunWritten file work out out' n
-FileAnswer file work out out' (Refused r) = RunRefused file work (length out) (told r) × (out' ≡ out)
+abbrev pub FileAnswer : List ℕ → ℕ → List ℕ → List ℕ → Result ℕ Refusal → Type 0
+FileAnswer file work out out' (Ok n) = RunWritten file work out out' n
+FileAnswer file work out out' (Err r) = RunRefused file work (length out) (told r) × (out' ≡ out)
 
 -- A lent work buffer: cleared by an accepted call, untouched by a refusal.
-abbrev pub WorkLeft : List ℕ → List ℕ → Written → Type 0
-WorkLeft work work' (Text n) = Cleared work work'
-WorkLeft work work' (Refused r) = work' ≡ work
+abbrev pub WorkLeft : List ℕ → List ℕ → Result ℕ Refusal → Type 0
+WorkLeft work work' (Ok n) = Cleared work work'
+WorkLeft work work' (Err r) = work' ≡ work
 
 -- With a lent work buffer (document 02, order 4), so that 4 comes where it is under 63,001 bytes.
-abbrev pub LentPromise : List ℕ → List ℕ → List ℕ → List ℕ → List ℕ → Written → Type 0
+abbrev pub LentPromise : List ℕ → List ℕ → List ℕ → List ℕ → List ℕ → Result ℕ Refusal → Type 0
 LentPromise file out work out' work' r = FileAnswer file (length work) out out' r × WorkLeft work work' r
 
 -- With a work buffer of its own, of 63,001 bytes, so that 4 never comes.
-abbrev pub FilePromise : List ℕ → List ℕ → List ℕ → Written → Type 0
+abbrev pub FilePromise : List ℕ → List ℕ → List ℕ → Result ℕ Refusal → Type 0
 FilePromise file out out' r = FileAnswer file 63001 out out' r

@@ -8,7 +8,7 @@ ghost use Rattle.answers.specs.Told.{told};
 ghost use Rattle.file_lines.specs.Book.{file_limit};
 ghost use Rattle.file_runs.specs.Promise.{ReportRefused};
 
-use answers::{Checked, Refusal};
+use answers::Refusal;
 
 // Why a book is refused whose report has no room: the book's refusal, for a work buffer of `work` bytes, or else 5.
 pub fn refuse_short(
@@ -22,7 +22,7 @@ pub fn refuse_short(
     ensures { ReportRefused counts.now blocks.now rules.now work room (told result) }
 {
     match book_checks::check_book(counts, blocks, rules, work) {
-        Checked::Refused(r) => r,
-        Checked::Sound => Refusal::Output(0),
+        Err(r) => r,
+        Ok(()) => Refusal::Output(0),
     }
 }

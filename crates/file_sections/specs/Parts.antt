@@ -1,20 +1,13 @@
 -- What the inner functions of reading a section answer: a line at the start of some bytes, the lines of a section, the
 -- whole of it.
-use Rattle.std.specs.Prelude.{◌≡◌, Bool, true, false, List, ◌∷◌, ◌++◌, map, ℕ, ◌+◌, ◌≤◌, ◌<◌, length, drop}
+use Rattle.std.specs.Prelude.{◌≡◌, Option, Some, None, Result, Ok, Err, List, ◌∷◌, ◌++◌, map, ℕ, ◌+◌, ◌≤◌, ◌<◌, length, drop}
 use Rattle.plain.specs.All.{All}
 use Rattle.plain.specs.Items.{join_items, PutItem}
 use Rattle.file_lines.specs.declared.Heading.{Heading}
 use Rattle.file_lines.specs.Grammar.{head_line, joined, word_of, Item, RightItem, line_of, size_of, numbers_of, part_lines, Section, Heads}
 use Rattle.file_lines.specs.Lines.{Says, SaysNone, Opens, OpensNone}
-use Rattle.file_lines.specs.declared.NumberAt.{NumberAt}
-use Rattle.file_lines.specs.declared.NumberAt.TheVariants.{Is as number, Not as no_number}
 use Rattle.files.specs.Departs.{Departs}
-use Rattle.file_sections.specs.declared.LineAt.{LineAt}
-use Rattle.file_sections.specs.declared.LineAt.TheVariants.{Ends as line-ends, Not as no_line}
-use Rattle.file_sections.specs.declared.Lines.{Lines}
-use Rattle.file_sections.specs.declared.Lines.TheVariants.{Read as lines-read, Departs as lines-depart}
-use Rattle.file_sections.specs.declared.Items.{Items}
-use Rattle.file_sections.specs.declared.Items.TheVariants.{Read as items-read, Departs as items-depart}
+use Rattle.file_sections.specs.declared.Departs.{Departs as Stop}
 
 -- The numbers xs stand at the front of an output, and the rest of it stays.
 abbrev pub AtFront : List ℕ → List ℕ → List ℕ → Type 0
@@ -25,9 +18,9 @@ abbrev pub items_numbers : (h : Heading) → List (Item h) → List ℕ
 items_numbers h xs = join_items (map (numbers_of h) xs)
 
 -- a section's count on the first line
-abbrev pub HeadAt : Heading → ℕ → List ℕ → NumberAt → Type 0
-HeadAt h most bytes (number n m) = Opens 10 (λ (k : ℕ). k ≤ most) (head_line (word_of h)) bytes n m
-HeadAt h most bytes no_number = OpensNone 10 (λ (k : ℕ). k ≤ most) (head_line (word_of h)) bytes
+abbrev pub HeadAt : Heading → ℕ → List ℕ → Option (ℕ × ℕ) → Type 0
+HeadAt h most bytes (Some p) = Opens 10 (λ (k : ℕ). k ≤ most) (head_line (word_of h)) bytes p.0 p.1
+HeadAt h most bytes None = OpensNone 10 (λ (k : ℕ). k ≤ most) (head_line (word_of h)) bytes
 
 -- what one line says is stored as item number i
 pub record LineStored (h : Heading) (line : List ℕ) (i : ℕ) (out out' : List ℕ) : Type 0 where
@@ -35,9 +28,9 @@ pub record LineStored (h : Heading) (line : List ℕ) (i : ℕ) (out out' : List
   pub says : Says (RightItem h) (line_of h) line item
   pub stored : PutItem (size_of h) out i (numbers_of h item) out'
 
-abbrev pub LineRead : Heading → List ℕ → ℕ → List ℕ → List ℕ → Bool → Type 0
-LineRead h line i out out' true = LineStored h line i out out'
-LineRead h line i out out' false = SaysNone (RightItem h) (line_of h) line
+abbrev pub LineRead : Heading → List ℕ → ℕ → List ℕ → List ℕ → Option Unit → Type 0
+LineRead h line i out out' (Some u) = LineStored h line i out out'
+LineRead h line i out out' None = SaysNone (RightItem h) (line_of h) line
 
 -- the first line of the bytes, to place m
 pub record LineTaken (h : Heading) (bytes : List ℕ) (m i : ℕ) (out out' : List ℕ) : Type 0 where
@@ -45,9 +38,9 @@ pub record LineTaken (h : Heading) (bytes : List ℕ) (m i : ℕ) (out out' : Li
   pub line : Opens 10 (RightItem h) (line_of h) bytes item m
   pub stored : PutItem (size_of h) out i (numbers_of h item) out'
 
-abbrev pub LineHere : Heading → List ℕ → ℕ → List ℕ → List ℕ → LineAt → Type 0
-LineHere h bytes i out out' (line-ends m) = LineTaken h bytes m i out out'
-LineHere h bytes i out out' no_line = OpensNone 10 (RightItem h) (line_of h) bytes
+abbrev pub LineHere : Heading → List ℕ → ℕ → List ℕ → List ℕ → Option ℕ → Type 0
+LineHere h bytes i out out' (Some m) = LineTaken h bytes m i out out'
+LineHere h bytes i out out' None = OpensNone 10 (RightItem h) (line_of h) bytes
 
 -- the first n lines of the bytes, to place m, are items, whose numbers are stored
 pub record LinesAre (h : Heading) (bytes out out' : List ℕ) (n m : ℕ) : Type 0 where
@@ -67,9 +60,9 @@ pub record LinesStop (h : Heading) (bytes : List ℕ) (i : ℕ) : Type 0 where
   pub split : bytes ≡ joined (map (line_of h) items) ++ rest
   pub stop : OpensNone 10 (RightItem h) (line_of h) rest
 
-abbrev pub LinesRead : Heading → ℕ → List ℕ → List ℕ → List ℕ → Lines → Type 0
-LinesRead h n bytes out out' (lines-read m) = LinesAre h bytes out out' n m
-LinesRead h n bytes out out' (lines-depart i) = LinesStop h bytes i × (i < n)
+abbrev pub LinesRead : Heading → ℕ → List ℕ → List ℕ → List ℕ → Result ℕ Stop → Type 0
+LinesRead h n bytes out out' (Ok m) = LinesAre h bytes out out' n m
+LinesRead h n bytes out out' (Err d) = LinesStop h bytes d.0 × (d.0 < n)
 
 -- A section headed h at the start of the bytes, to place m: its n items, whose numbers are stored.
 pub record SectionIs (h : Heading) (most : ℕ) (bytes out out' : List ℕ) (n m : ℕ) : Type 0 where
@@ -88,7 +81,7 @@ pub record HeadedBy (s : Section) (h : Heading) (bytes : List ℕ) : Type 0 wher
 
 -- Or the line after i lines departs from each section of so many items that the bytes can head by h alone, whatever
 -- sections follow. (i is bounded so that the line's number fits.)
-abbrev pub SectionRead : Heading → ℕ → List ℕ → List ℕ → List ℕ → Items → Type 0
-SectionRead h most bytes out out' (items-read n m) = SectionIs h most bytes out out' n m
-SectionRead h most bytes out out' (items-depart i) =
-    ((s : Section) (G : List Section) → s.most ≡ most → HeadedBy s h bytes → Departs (s ∷ G) bytes (i + 1)) × (i ≤ most + 1)
+abbrev pub SectionRead : Heading → ℕ → List ℕ → List ℕ → List ℕ → Result (ℕ × ℕ) Stop → Type 0
+SectionRead h most bytes out out' (Ok p) = SectionIs h most bytes out out' p.0 p.1
+SectionRead h most bytes out out' (Err d) =
+    ((s : Section) (G : List Section) → s.most ≡ most → HeadedBy s h bytes → Departs (s ∷ G) bytes (d.0 + 1)) × (d.0 ≤ most + 1)

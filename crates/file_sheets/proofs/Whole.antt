@@ -4,7 +4,7 @@ use mathlib.Core.List.{List, [], ◌∷◌, ◌++◌, append_assoc, append-nil}
 use mathlib.Core.Logic.{inl, inr, ⊎_elim}
 use Prim.Native.Nat.{ℕ, ◌+◌, ◌≤◌}
 use native.Mathlib.Omega.{arith}
-use lib.ListN.{length, get_or, drop, length-drop}
+use lib.ListN.{length, get_or, take, drop, length-drop}
 use lib.Seq.{drop-drop}
 use Rattle.plain.specs.Items.{join_items}
 use Rattle.shapes.specs.Lent.{words_of}
@@ -68,6 +68,15 @@ module _ (texts : ℕ) (bytes cs cs' : List ℕ) (n m : ℕ) (t : SectionIs Text
 -- a section of blocks is headed by the word that its first letter tells
 letter_of : {bytes : List ℕ} {h k : Heading} (n : ℕ) (after : List ℕ) → bytes ≡ head_line (word_of k) n ++ 10 ∷ after → k ≡ h → get_or bytes 0 0 ≡ heading_letter h
 letter_of {k = k} n after e q = ap (λ (l : List ℕ). get_or l 0 0) e ∙ first_letter k n (10 ∷ after) ∙ ap heading_letter q
+
+-- the first byte, by the first byte taken
+pub first_taken : (bytes : List ℕ) (c : ℕ) → take 1 bytes ≡ c ∷ [] → get_or bytes 0 0 ≡ c
+first_taken [] c e = absurd (let f = ap length e in omega arith)
+first_taken (a ∷ bytes) c e = ap (λ (l : List ℕ). get_or l 0 0) e
+
+pub first_other : (bytes : List ℕ) → (take 1 bytes ≡ 87 ∷ [] → ⊥) → get_or bytes 0 0 ≡ 87 → ⊥
+first_other [] h e = omega arith
+first_other (a ∷ bytes) h e = h (ap (λ (c : ℕ). c ∷ []) e)
 
 pub headed_low : (bytes : List ℕ) → (get_or bytes 0 0 ≡ 87 → ⊥) → HeadedBy blocks_section (Blocks Low) bytes
 headed_low bytes other = record { heads = inl refl; only = λ k heads n after e. ⊎_elim (λ q. q) (λ q. absurd (other (letter_of n after e q))) heads }

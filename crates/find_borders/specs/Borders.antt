@@ -1,9 +1,14 @@
 -- The words that tell where the mark has each of its characters, and with which of its own starts each of its starts
 -- ends.
-use Rattle.std.specs.Prelude.{◌≡◌, List, ◌⊎◌, ℕ, ◌+◌, ◌≤◌, ◌<◌, length, get_or, take}
+use Rattle.std.specs.Prelude.{◌≡◌, List, ◌⊎◌, ℕ, ◌+◌, ◌≤◌, ◌<◌, length, get_or, take, Bool, true, false}
 use Rattle.bases.specs.Base.{Holds}
 use Rattle.sets.specs.Set.{Exactly}
 use Rattle.find_texts.specs.Match.{EndsWith}
+
+-- Of the numbers below n, w has those of which a test answers true, and has not those of which it answers false.
+pub record Collected (test : ℕ → Bool → Type 0) (n w : ℕ) : Type 0 where
+  pub so : (e : ℕ) → Holds w e → (e < n) × test e true
+  pub not_so : (e : ℕ) → e < n → (Holds w e → ⊥) → test e false
 
 -- A mark that is searched for by states: of 1 to 64 characters.
 pub record ShortMark (mark : List ℕ) : Type 0 where

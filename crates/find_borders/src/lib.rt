@@ -3,29 +3,30 @@
 
 #![tactic(auto)]
 
-ghost use Rattle.std.specs.Prelude.{◌≡◌, true, ◌⊎◌, ◌<◌, length, get_or};
+ghost use Rattle.std.specs.Prelude.{◌≡◌, true, ◌⊎◌, ◌≤◌, ◌<◌, ℕ, length};
 ghost use Rattle.bases.specs.Base.{Holds};
-ghost use Rattle.plain.specs.Tells.{Tells};
 ghost use Rattle.sets.specs.Set.{Exactly};
-ghost use Rattle.find_borders.specs.Borders.{ShortMark, SameAt, Sames, Borders, UpOne};
+ghost use Rattle.find_borders.specs.Borders.{Collected, ShortMark, SameAt, Sames, Borders, UpOne};
 
 // Adds q to the numbers of w if so told.
 pub fn add_if(w: u64, q: usize, yes: bool) -> u64
     requires { q < 64 }
     ensures { Exactly result (λ e. Holds w e ⊎ ((e ≡ q) × (yes ≡ true))) }
 {
-    if yes {
-        return w | 1u64 << q;
-    }
-    w
+    if yes { w | 1 << q } else { w }
 }
 
-// Whether character j of the mark is c.
-fn is_char(mark: &[u8], j: usize, c: u8) -> bool
-    requires { j < length mark.now }
-    ensures { Tells result (get_or mark.now j 0 ≡ c) }
+// The numbers below n of which `told` says so.
+pub fn numbers<F: Fn(usize) -> bool>(n: usize, told: F) -> u64
+    requires few { n ≤ 64 }
+    requires callable { (q : ℕ) → q < n → F.pre told q }
+    ensures { Collected (F.post told) n result }
 {
-    mark[j] == c
+    let mut w = 0;
+    for q in 0..n {
+        w = add_if(w, q, told(q));
+    }
+    w
 }
 
 // Where the mark has the character c.
@@ -33,13 +34,7 @@ fn same(mark: &[u8], c: u8) -> u64
     requires { ShortMark mark.now }
     ensures { Exactly result (SameAt mark.now c) }
 {
-    let mut w = 0;
-    let mut j = 0;
-    while j < mark.len() {
-        w = add_if(w, j, is_char(mark, j, c));
-        j += 1;
-    }
-    w
+    numbers(mark.len(), |j| mark[j] == c)
 }
 
 // For each character of the mark, where the mark has it.
@@ -47,10 +42,8 @@ pub fn lay_sames(mark: &[u8], sames: &mut [u64; 64])
     requires { ShortMark mark.now × (length sames.old ≡ 64) }
     ensures { Sames mark.now (length mark.now) sames.new × (length sames.new ≡ 64) }
 {
-    let mut r = 0;
-    while r < mark.len() {
-        sames[r] = same(mark, mark[r]);
-        r += 1;
+    for (r, c) in mark.iter().enumerate() {
+        sames[r] = same(mark, *c);
     }
 }
 
@@ -68,9 +61,7 @@ pub fn lay_borders(mark: &[u8], sames: &[u64; 64], borders: &mut [u64; 64])
     ensures { Borders mark.now (length mark.now) borders.new }
 {
     borders[0] = 1;
-    let mut q = 1;
-    while q < mark.len() {
+    for q in 1..mark.len() {
         borders[q] = next_borders(borders[q - 1], sames[q - 1]);
-        q += 1;
     }
 }

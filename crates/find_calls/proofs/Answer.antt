@@ -9,11 +9,9 @@ use Rattle.bases.proofs.Laws.{none_in_zero}
 use Rattle.bases.proofs.Sets.{some_held}
 use Rattle.sets.specs.Set.{Exactly}
 use Rattle.answers.specs.declared.Index.{Index}
-use Rattle.answers.specs.declared.Sought.{Sought}
-use Rattle.answers.specs.declared.Sought.TheVariants.{Nowhere, InSome, InAll, Refused}
+use Rattle.answers.specs.declared.Sought.TheVariants.{InAll}
 use Rattle.plain.specs.All.{All}
 use Rattle.shapes.specs.Shape.{Block, Sound, Fits}
-use Rattle.shapes.specs.Lent.{shape_of}
 use Rattle.find_texts.specs.Occurs.{Lacks, SomeLacks, Indices}
 use Rattle.find_texts.specs.Reading.{Begun}
 use Rattle.find_texts.proofs.Occur.{occurs_within}
@@ -21,7 +19,7 @@ use Rattle.find_texts.proofs.Found.{struck_first, first_struck, kept_lacks, lack
 use Rattle.find_texts.proofs.Whole.{none_has, some_text}
 use Rattle.find_rows.specs.Says.{HitsSay}
 use Rattle.find_reads.specs.Reads.{LeftIn}
-use Rattle.find_calls.specs.Find.{SoughtIn, Asked, FindPromise}
+use Rattle.find_calls.specs.Find.{SoughtIn}
 
 module _ {mark : List ℕ} {s : List Block} {hits : ℕ} (h : HitsSay mark (Begun s) hits) where
   pub nowhere : Empty hits → (t : List ℕ) → Fits s t → Lacks mark t
@@ -60,10 +58,3 @@ empty_in_all mark {s} {i} {j} e a c d =
     let t = some_text a in
     subst (λ (m : List ℕ). (SomeLacks m s → ⊥) × Indices m s i.at j.at) (no_mark mark e)
     (empty_has, subst (λ (n : ℕ). Indices [] s n j.at) (sym c) (subst (Indices [] s 1) (sym d) (empty_indices t.0 t.1)))
-
--- what is sought is promised
-pub promised : {xs mark : List ℕ} (r : Sought) → Asked xs mark → SoughtIn mark (shape_of xs) r → FindPromise xs mark r
-promised Nowhere a x = (a, x)
-promised (InSome i j) a x = (a, x)
-promised (InAll i j) a x = (a, x)
-promised (Refused r) a x = absurd x

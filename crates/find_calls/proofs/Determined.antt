@@ -8,8 +8,10 @@ use Rattle.answers.specs.Turns.{in_turn}
 use Rattle.answers.proofs.Told.{told_one}
 use Rattle.answers.proofs.Turns.{OneOf, need_one, in_turn_one}
 use Rattle.answers.specs.declared.Index.{Index}
+use Rattle.std.specs.Prelude.{Result, Ok, Err}
+use Rattle.answers.specs.declared.Refusal.{Refusal}
 use Rattle.answers.specs.declared.Sought.{Sought}
-use Rattle.answers.specs.declared.Sought.TheVariants.{Nowhere, InSome, InAll, Refused}
+use Rattle.answers.specs.declared.Sought.TheVariants.{Nowhere, InSome, InAll}
 use Rattle.shapes.specs.Shape.{Block, Fits}
 use Rattle.shapes.proofs.Refused.{of_shape_lem}
 use Rattle.find_texts.specs.Occurs.{Lacks, SomeFirst, Indices}
@@ -37,20 +39,20 @@ greatest_one p q = let a = p.to _ q.at_greatest in let b = q.to _ p.at_greatest 
 same_index : {i j : Index} → i.at ≡ j.at → i ≡ j
 same_index e = λ k. record { at = e k }
 
-pub find_determined : (xs mark : List ℕ) (a b : Sought) → FindPromise xs mark a → FindPromise xs mark b → a ≡ b
-find_determined xs mark Nowhere Nowhere p q = refl
-find_determined xs mark Nowhere (InSome k l) p q = absurd (has_not_lacks q.1.1.at_least p.1)
-find_determined xs mark Nowhere (InAll k l) p q = absurd (has_not_lacks q.1.1.at_least p.1)
-find_determined xs mark Nowhere (Refused r) p q = absurd (find_refused_not xs mark q p.0)
-find_determined xs mark (InSome i j) Nowhere p q = absurd (has_not_lacks p.1.1.at_least q.1)
-find_determined xs mark (InSome i j) (InSome k l) p q = ap₂ InSome (same_index (least_one p.1.1 q.1.1)) (same_index (greatest_one p.1.1 q.1.1))
-find_determined xs mark (InSome i j) (InAll k l) p q = absurd (q.1.0 p.1.0)
-find_determined xs mark (InSome i j) (Refused r) p q = absurd (find_refused_not xs mark q p.0)
-find_determined xs mark (InAll i j) Nowhere p q = absurd (has_not_lacks p.1.1.at_least q.1)
-find_determined xs mark (InAll i j) (InSome k l) p q = absurd (p.1.0 q.1.0)
-find_determined xs mark (InAll i j) (InAll k l) p q = ap₂ InAll (same_index (least_one p.1.1 q.1.1)) (same_index (greatest_one p.1.1 q.1.1))
-find_determined xs mark (InAll i j) (Refused r) p q = absurd (find_refused_not xs mark q p.0)
-find_determined xs mark (Refused r) Nowhere p q = absurd (find_refused_not xs mark p q.0)
-find_determined xs mark (Refused r) (InSome k l) p q = absurd (find_refused_not xs mark p q.0)
-find_determined xs mark (Refused r) (InAll k l) p q = absurd (find_refused_not xs mark p q.0)
-find_determined xs mark (Refused r) (Refused s) p q = ap Refused (told_one r s (find_refused_one xs mark p q))
+pub find_determined : (xs mark : List ℕ) (a b : Result Sought Refusal) → FindPromise xs mark a → FindPromise xs mark b → a ≡ b
+find_determined xs mark (Ok Nowhere) (Ok Nowhere) p q = refl
+find_determined xs mark (Ok Nowhere) (Ok (InSome k l)) p q = absurd (has_not_lacks q.1.1.at_least p.1)
+find_determined xs mark (Ok Nowhere) (Ok (InAll k l)) p q = absurd (has_not_lacks q.1.1.at_least p.1)
+find_determined xs mark (Ok Nowhere) (Err r) p q = absurd (find_refused_not xs mark q p.0)
+find_determined xs mark (Ok (InSome i j)) (Ok Nowhere) p q = absurd (has_not_lacks p.1.1.at_least q.1)
+find_determined xs mark (Ok (InSome i j)) (Ok (InSome k l)) p q = ap₂ (λ (x y : Index). Ok (InSome x y)) (same_index (least_one p.1.1 q.1.1)) (same_index (greatest_one p.1.1 q.1.1))
+find_determined xs mark (Ok (InSome i j)) (Ok (InAll k l)) p q = absurd (q.1.0 p.1.0)
+find_determined xs mark (Ok (InSome i j)) (Err r) p q = absurd (find_refused_not xs mark q p.0)
+find_determined xs mark (Ok (InAll i j)) (Ok Nowhere) p q = absurd (has_not_lacks p.1.1.at_least q.1)
+find_determined xs mark (Ok (InAll i j)) (Ok (InSome k l)) p q = absurd (p.1.0 q.1.0)
+find_determined xs mark (Ok (InAll i j)) (Ok (InAll k l)) p q = ap₂ (λ (x y : Index). Ok (InAll x y)) (same_index (least_one p.1.1 q.1.1)) (same_index (greatest_one p.1.1 q.1.1))
+find_determined xs mark (Ok (InAll i j)) (Err r) p q = absurd (find_refused_not xs mark q p.0)
+find_determined xs mark (Err r) (Ok Nowhere) p q = absurd (find_refused_not xs mark p q.0)
+find_determined xs mark (Err r) (Ok (InSome k l)) p q = absurd (find_refused_not xs mark p q.0)
+find_determined xs mark (Err r) (Ok (InAll k l)) p q = absurd (find_refused_not xs mark p q.0)
+find_determined xs mark (Err r) (Err s) p q = ap Err (told_one r s (find_refused_one xs mark p q))

@@ -2,12 +2,12 @@
 
 #![tactic(auto)]
 
-ghost use Rattle.std.specs.Prelude.{◌≡◌, ◌+◌, ◌≤◌, ◌<◌, length};
+ghost use Rattle.std.specs.Prelude.{◌≡◌, ◌+◌, ◌≤◌, ◌<◌};
 ghost use Rattle.shapes.specs.Lent.{Accepted, shape_of};
 ghost use Rattle.find_borders.specs.Borders.{ShortMark};
 ghost use Rattle.find_calls.specs.Find.{SoughtIn, FindPromise};
 
-use answers::{Checked, Index, Refusal, Sought};
+use answers::{Index, Refusal, Sought};
 
 // The index at which a mark of m characters starts whose last is character k: the only place where an index is made,
 // from lengths.
@@ -37,32 +37,17 @@ fn seek(shape: &[u64], mark: &[u8]) -> Sought
     Sought::InSome(least, greatest)
 }
 
-// What is refused where the mark is over 64 bytes: the shape's own comes first.
-fn too_long(shape: &[u64], mark: &[u8]) -> Sought
-    requires { 64 < length mark.now }
-    ensures { FindPromise shape.now mark.now result }
-{
-    match shape_checks::check_lent(shape, 1) {
-        Checked::Refused(own) => Sought::Refused(own),
-        Checked::Sound => Sought::Refused(Refusal::Mark),
-    }
-}
-
 // Where a mark first occurs in the texts of a shape.
-pub fn find(shape: &[u64], mark: &[u8]) -> Sought
+pub fn find(shape: &[u64], mark: &[u8]) -> Result<Sought, Refusal>
     ensures { FindPromise shape.now mark.now result }
 {
+    shape_checks::check_lent(shape, 1)?;
     if 64 < mark.len() {
-        return too_long(shape, mark);
+        return Err(Refusal::Mark);
     }
-    match shape_checks::check_lent(shape, 1) {
-        Checked::Refused(r) => Sought::Refused(r),
-        Checked::Sound => {
-            if mark.len() == 0 {
-                let start = index_of(0, 0);
-                return Sought::InAll(start, start);
-            }
-            seek(shape, mark)
-        }
+    if mark.is_empty() {
+        let start = index_of(0, 0);
+        return Ok(Sought::InAll(start, start));
     }
+    Ok(seek(shape, mark))
 }

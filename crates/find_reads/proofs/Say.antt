@@ -11,6 +11,7 @@ use Rattle.bases.specs.Base.{Holds, Empty}
 use Rattle.plain.specs.Tells.{Tells}
 use Rattle.bases.proofs.Laws.{none_in_zero}
 use Rattle.plain.proofs.Plain.{lt_or_le, eq_or_ne}
+use Rattle.sets.specs.declared.Set.{Set}
 use Rattle.sets.specs.Set.{Exactly}
 use Rattle.sets.proofs.Exact.{exactly_as, exactly_at, none_exactly, either_exactly, one_exactly}
 use Rattle.shapes.specs.Shape.{Block, Sound, Fits, total}
@@ -32,14 +33,14 @@ short : {s : List Block} {base lower o : ℕ} → total s + o < 255 → (t : Lis
 short bound t x = let n = within_length x in omega arith
 
 module _ {mark : List ℕ} where
-  pub says_as : {T U : List ℕ → Type 0} {rows : List ℕ} → ((t : List ℕ) → T t → U t) → ((t : List ℕ) → U t → T t) → RowsSay mark T rows → RowsSay mark U rows
+  pub says_as : {T U : List ℕ → Type 0} {rows : List Set} → ((t : List ℕ) → T t → U t) → ((t : List ℕ) → U t → T t) → RowsSay mark T rows → RowsSay mark U rows
   says_as f g s = record { each = λ q l. exactly_as (λ k x. kept_as mark f x) (λ k x. kept_as mark g x) (s.each q l) }
 
   pub hits_as : {T U : List ℕ → Type 0} {h : ℕ} → ((t : List ℕ) → T t → U t) → ((t : List ℕ) → U t → T t) → HitsSay mark T h → HitsSay mark U h
   hits_as f g s = record { all = exactly_as (λ k x. struck_as mark f x) (λ k x. struck_as mark g x) s.all }
 
-  module _ {T : List ℕ → Type 0} {base : ℕ} {was : List ℕ} (short : (t : List ℕ) → T t → length t < 255) (s : RowsSay mark T was) where
-    pub says_moved : {keep : Bool} {rows : List ℕ} → Moved mark base keep was rows → RowsSay mark (λ t. Then T base t ⊎ ((keep ≡ true) × T t)) rows
+  module _ {T : List ℕ → Type 0} {base : ℕ} {was : List Set} (short : (t : List ℕ) → T t → length t < 255) (s : RowsSay mark T was) where
+    pub says_moved : {keep : Bool} {rows : List Set} → Moved mark base keep was rows → RowsSay mark (λ t. Then T base t ⊎ ((keep ≡ true) × T t)) rows
     says_moved {keep} x = record {
       each = λ r l. exactly_as
           (λ k a. ⊎_elim
@@ -80,7 +81,7 @@ module _ {mark : List ℕ} where
   -- ---- within a block
 
   module _ {s : List Block} {base lower o : ℕ} (bound : total s + o < 255) where
-    pub says_more : {keep : Bool} {was rows : List ℕ} → Tells keep (lower ≤ o) → RowsSay mark (ReadWithin s base lower o) was → Moved mark base keep was rows
+    pub says_more : {keep : Bool} {was rows : List Set} → Tells keep (lower ≤ o) → RowsSay mark (ReadWithin s base lower o) was → Moved mark base keep was rows
         → RowsSay mark (ReadWithin s base lower (o + 1)) rows
     says_more {keep} {was} {rows} k x y = ⊎_elim
         (λ l. says_as
@@ -100,30 +101,30 @@ module _ {mark : List ℕ} where
         told : lower ≤ o → keep ≡ true
         told l = go keep k l
 
-    pub hits_more : {was : List ℕ} {h a x : ℕ} → RowsSay mark (ReadWithin s base lower o) was → HitsSay mark (ReadTo s base o) h → Exactly a (Arrived mark base was (length mark)) → x ≡ bit_or h a
+    pub hits_more : {was : List Set} {h a x : ℕ} → RowsSay mark (ReadWithin s base lower o) was → HitsSay mark (ReadTo s base o) h → Exactly a (Arrived mark base was (length mark)) → x ≡ bit_or h a
         → HitsSay mark (ReadTo s base (o + 1)) x
     hits_more x u y e = hits_as (λ t z. more_read z) (λ t z. read_more z) (hits_then (short bound) x u y e)
 
   -- the block's end
-  pub block_end : {s : List Block} (b : Block) {rows : List ℕ} → Sound b → RowsSay mark (ReadWithin s b.base b.lower b.upper) rows → RowsSay mark (Fits (s ++ (b ∷ []))) rows
+  pub block_end : {s : List Block} (b : Block) {rows : List Set} → Sound b → RowsSay mark (ReadWithin s b.base b.lower b.upper) rows → RowsSay mark (Fits (s ++ (b ∷ []))) rows
   block_end b g x = says_as (λ t z. within_block b g.ordered z) (λ t z. block_within b z) x
 
   pub block_hits : {s : List Block} (b : Block) {h : ℕ} → Sound b → HitsSay mark (ReadTo s b.base b.upper) h → HitsSay mark (Begun (s ++ (b ∷ []))) h
   block_hits {s} b g x = hits_as (λ t z. read_begun s b g z) (λ t z. begun_read s b z) x
 
-  pub block_start : {s : List Block} {base lower : ℕ} {rows : List ℕ} → RowsSay mark (Fits s) rows → RowsSay mark (ReadWithin s base lower 0) rows
+  pub block_start : {s : List Block} {base lower : ℕ} {rows : List Set} → RowsSay mark (Fits s) rows → RowsSay mark (ReadWithin s base lower 0) rows
   block_start x = says_as (λ t z. within_none z) (λ t z. none_within z) x
 
   pub hits_start : {s : List Block} {base h : ℕ} → HitsSay mark (Begun s) h → HitsSay mark (ReadTo s base 0) h
   hits_start {s} {base} x = hits_as (λ t z. inl z) (λ t z. read_none {base = base} z) x
 
 -- the same blocks
-pub heard_of : {mark rows : List ℕ} {hits : ℕ} {s u : List Block} → s ≡ u → Heard mark s rows hits → Heard mark u rows hits
+pub heard_of : {mark : List ℕ} {rows : List Set} {hits : ℕ} {s u : List Block} → s ≡ u → Heard mark s rows hits → Heard mark u rows hits
 heard_of {mark} {rows} {hits} e x = subst (λ (z : List Block). Heard mark z rows hits) e x
 
 -- ---- the start
 
-pub rows_start : {mark w rows : List ℕ} {one : ℕ} → 0 < length mark → ((q : ℕ) → q < length mark → row_in w q ≡ 0) → Exactly one (λ e. e ≡ 0) → PutRow w 0 one rows → RowsSay mark (Fits []) rows
+pub rows_start : {mark : List ℕ} {w rows : List Set} {one : ℕ} → 0 < length mark → ((q : ℕ) → q < length mark → row_in w q ≡ 0) → Exactly one (λ e. e ≡ 0) → PutRow w 0 one rows → RowsSay mark (Fits []) rows
 rows_start {mark} {w} {rows} {one} h z o p = record {
   each = λ q l. ⊎_elim
       (λ e. subst (λ (x : ℕ). Exactly (row_in rows x) (SomeKept mark (Fits []) x)) (sym e)
@@ -136,14 +137,14 @@ pub hits_none : {mark : List ℕ} {h : ℕ} → 0 < length mark → h ≡ 0 → 
 hits_none h z = record { all = none_exactly z (λ k x. none_struck h x) }
 
 -- the live states are those of the texts that are left
-pub live_left : {mark : List ℕ} {T : List ℕ → Type 0} {rows : List ℕ} {w : ℕ} → RowsSay mark T rows → Exactly w (LiveIn mark rows) → Exactly w (LeftIn mark T)
+pub live_left : {mark : List ℕ} {T : List ℕ → Type 0} {rows : List Set} {w : ℕ} → RowsSay mark T rows → Exactly w (LiveIn mark rows) → Exactly w (LeftIn mark T)
 live_left s a = exactly_as
     (λ q h. record { below = h.0; count = h.1.number; kept = (s.each q h.0).so h.1.number h.1.held })
     (λ q h. (h.below, record { number = h.count; held = (s.each q h.below).has h.count h.kept }))
     a
 
 -- at the start, state 0 alone
-pub first_live : (mark : List ℕ) {w rows : List ℕ} {one : ℕ} → 0 < length mark → ((q : ℕ) → q < length mark → row_in w q ≡ 0) → Exactly one (λ e. e ≡ 0) → PutRow w 0 one rows → Exactly 1 (LiveIn mark rows)
+pub first_live : (mark : List ℕ) {w rows : List Set} {one : ℕ} → 0 < length mark → ((q : ℕ) → q < length mark → row_in w q ≡ 0) → Exactly one (λ e. e ≡ 0) → PutRow w 0 one rows → Exactly 1 (LiveIn mark rows)
 unfolding Empty
 first_live mark {w} {rows} {one} h z o p = exactly_as
     (λ q e. subst (LiveIn mark rows) (sym e) (h, record { number = 0; held = subst (λ (x : ℕ). Holds x 0) (sym p.here) (o.has 0 refl) }))
@@ -152,7 +153,7 @@ first_live mark {w} {rows} {one} h z o p = exactly_as
 
 -- ---- where every text has the mark, a block more changes nothing
 
-module _ {mark : List ℕ} {s : List Block} {rows : List ℕ} (none : (q : ℕ) → LiveIn mark rows q → ⊥) (h : RowsSay mark (Fits s) rows) where
+module _ {mark : List ℕ} {s : List Block} {rows : List Set} (none : (q : ℕ) → LiveIn mark rows q → ⊥) (h : RowsSay mark (Fits s) rows) where
   all_have : (t : List ℕ) → Fits s t → Lacks mark t → ⊥
   all_have t f l =
       let m = state_of mark t in
@@ -195,7 +196,7 @@ module _ {mark : List ℕ} {s : List Block} {rows : List ℕ} (none : (q : ℕ) 
         x.all;
   }
 
-pub heard_on : {mark : List ℕ} {s : List Block} {rows : List ℕ} {live hits : ℕ} (b : Block) → Sound b → Exactly live (LiveIn mark rows) → live ≡ 0
+pub heard_on : {mark : List ℕ} {s : List Block} {rows : List Set} {live hits : ℕ} (b : Block) → Sound b → Exactly live (LiveIn mark rows) → live ≡ 0
     → Heard mark s rows hits → Heard mark (s ++ (b ∷ [])) rows hits
 unfolding Empty
 heard_on {mark} {rows = rows} b g a z h =

@@ -14,7 +14,7 @@ ghost use Rattle.find_ways.specs.Ways.{FallWords, ContinuedRows, WaysOf};
 ghost use Rattle.find_rows.specs.Says.{HitsSay, LiveIn};
 ghost use Rattle.find_reads.specs.Reads.{Heard, LeftIn};
 
-use find_ways::Ways;
+use find_ways::{Mark, Ways};
 use sets::Set;
 use shapes::Block;
 
@@ -26,59 +26,37 @@ pub struct Search {
 }
 
 // One block more, character by character.
-fn read_block(
-    mark: &[u8],
-    falls: &[u64; 64],
-    ways: Ways,
-    b: Block,
-    rows: &mut [u64; 256],
-    before: Search,
-) -> Search
-    requires short_mark { ShortMark mark.now × Exactly before.live (LiveIn mark.now rows.old) × Sound (meant b) }
-    requires fall_words { FallWords mark.now (length mark.now) falls.now × WaysOf mark.now ways × (set_of ways.base ≡ set_of b.base) }
-    ensures exactly { Exactly result.live (LiveIn mark.now rows.new) }
-    ensures heard { (s : List Meant) → total s + b.upper ≤ 250 → Heard mark.now s rows.old (set_of before.hits)
-        → Heard mark.now (s ++ (meant b ∷ [])) rows.new (set_of result.hits) }
+fn read_block(mark: Mark, ways: Ways, b: Block, rows: &mut [Set; 64], before: Search) -> Search
+    requires short_mark { ShortMark mark.text.now × Exactly before.live (LiveIn mark.text.now rows.old) × Sound (meant b) }
+    requires fall_words { FallWords mark.text.now (length mark.text.now) mark.falls.now × WaysOf mark.text.now ways × (set_of ways.base ≡ set_of b.base) }
+    ensures exactly { Exactly result.live (LiveIn mark.entry.text.now rows.new) }
+    ensures heard { (s : List Meant) → total s + b.upper ≤ 250 → Heard mark.entry.text.now s rows.old (set_of before.hits)
+        → Heard mark.entry.text.now (s ++ (meant b ∷ [])) rows.new (set_of result.hits) }
 {
-    let m = mark.len();
-    let lower = b.lower;
-    let upper = b.upper;
+    let m = mark.text.len();
     let mut live = before.live;
     let mut hits = before.hits;
-    let mut o = 0;
-    while o < upper {
-        let last = rows::row_at(rows, m - 1);
-        let found = find_rows::arrive(mark, falls, ways, rows, live, last, m);
+    for o in 0..b.upper {
+        let found = find_rows::arrive(mark, ways, rows, live, rows[m - 1], m);
         hits = sets::either(hits, found);
-        live = find_rows::step(mark, falls, ways, rows, live, lower <= o);
-        o += 1;
+        live = find_rows::step(mark, ways, rows, live, b.lower <= o);
     }
-    Search {
-        live: live,
-        hits: hits,
-    }
+    Search { live, hits }
 }
 
 // One block more; where every text has the mark by now, there is nothing left to read.
-fn read_on(
-    mark: &[u8],
-    falls: &[u64; 64],
-    seen: &[u64; 256],
-    b: Block,
-    rows: &mut [u64; 256],
-    before: Search,
-) -> Search
-    requires short_mark { ShortMark mark.now × Exactly before.live (LiveIn mark.now rows.old) × Sound (meant b) }
-    requires fall_words { FallWords mark.now (length mark.now) falls.now × ContinuedRows mark.now (length mark.now) seen.now }
-    ensures exactly { Exactly result.live (LiveIn mark.now rows.new) }
-    ensures heard { (s : List Meant) → total s + b.upper ≤ 250 → Heard mark.now s rows.old (set_of before.hits)
-        → Heard mark.now (s ++ (meant b ∷ [])) rows.new (set_of result.hits) }
+fn read_on(mark: Mark, b: Block, rows: &mut [Set; 64], before: Search) -> Search
+    requires short_mark { ShortMark mark.text.now × Exactly before.live (LiveIn mark.text.now rows.old) × Sound (meant b) }
+    requires fall_words { FallWords mark.text.now (length mark.text.now) mark.falls.now × ContinuedRows mark.text.now (length mark.text.now) mark.seen.now }
+    ensures exactly { Exactly result.live (LiveIn mark.entry.text.now rows.new) }
+    ensures heard { (s : List Meant) → total s + b.upper ≤ 250 → Heard mark.entry.text.now s rows.old (set_of before.hits)
+        → Heard mark.entry.text.now (s ++ (meant b ∷ [])) rows.new (set_of result.hits) }
 {
     if before.live == 0 {
         return before;
     }
-    let ways = find_ways::of_base(mark, seen, b.base);
-    read_block(mark, falls, ways, b, rows, before)
+    let ways = find_ways::of_base(mark, b.base);
+    read_block(mark, ways, b, rows, before)
 }
 
 // All blocks of a shape, from the start.
@@ -88,20 +66,22 @@ pub fn read_shape(mark: &[u8], shape: &[u64]) -> Search
     ensures hits_say { HitsSay mark.now (Begun (shape_of shape.now)) (set_of result.hits) }
 {
     let mut falls = [0u64; 64];
-    let mut seen = [0u64; 256];
+    let mut seen = rows::blank();
     find_ways::lay(mark, &mut falls, &mut seen);
-    let mut rows = [0u64; 256];
-    rows::put_row(&mut rows, 0, sets::single(0));
-    let n = shape.len() / shapes::SIZE;
+    let known = Mark {
+        text: mark,
+        falls: &falls,
+        seen: &seen,
+    };
+    let mut rows = rows::blank();
+    rows[0] = sets::single(0);
     let mut search = Search {
         live: 1,
         hits: sets::none(),
     };
-    let mut i = 0;
-    while i < n {
+    for i in 0..shape.len() / shapes::SIZE {
         let b = shapes::block_at(shape, i);
-        search = read_on(mark, &falls, &seen, b, &mut rows, search);
-        i += 1;
+        search = read_on(known, b, &mut rows, search);
     }
     search
 }

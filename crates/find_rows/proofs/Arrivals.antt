@@ -10,13 +10,14 @@ use Rattle.bases.specs.Base.{Holds}
 use Rattle.plain.proofs.Plain.{eq_or_ne}
 use Rattle.sets.specs.Set.{Exactly}
 use Rattle.sets.proofs.Exact.{exactly_as, both_exactly, either_exactly, up_exactly, none_exactly}
+use Rattle.sets.specs.declared.Set.{Set}
 use Rattle.rows.specs.Row.{row_in}
 use Rattle.fit_rows.specs.Rows.{Picked}
 use Rattle.find_ways.specs.Ways.{FallAt, Resets}
 use Rattle.find_ways.proofs.Leads.{goes_enters, enters_goes, own_enters, enters_from}
 use Rattle.find_rows.specs.Says.{LiveIn, Arrived, Underway}
 
-module _ (mark : List ℕ) (base : ℕ) (was rows : List ℕ) {live : ℕ} (alive : Exactly live (LiveIn mark was)) where
+module _ (mark : List ℕ) (base : ℕ) (was rows : List Set) {live : ℕ} (alive : Exactly live (LiveIn mark was)) where
   -- to state 0, from the states that are live
   pub arrived_none : {w g x last : ℕ} → Underway was rows 0 last → Resets mark base w → Exactly g (Picked (row_in rows) (bit_and w live)) → x ≡ g * 2 % 2 ^ 256
       → Exactly x (Arrived mark base was 0)

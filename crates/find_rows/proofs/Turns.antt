@@ -13,6 +13,7 @@ use Rattle.plain.proofs.Plain.{lt_or_le}
 use Rattle.bases.proofs.Sets.{some_held}
 use Rattle.sets.specs.Set.{Exactly}
 use Rattle.sets.proofs.Exact.{exactly_as, exactly_at}
+use Rattle.sets.specs.declared.Set.{Set}
 use Rattle.rows.specs.Row.{row_in, PutRow}
 use Rattle.rows.proofs.Rows.{rows_more}
 use Rattle.find_borders.proofs.Collect.{collect_none, collect_more}
@@ -21,25 +22,25 @@ use Rattle.find_texts.specs.Match.{StateGoes}
 use Rattle.find_rows.specs.Says.{SomeIn, LiveIn, Arrived, MovedTo, Moved, Underway}
 
 -- the rows below t are moved, those from t on are as they were; `next` has the live ones among the first
-pub record Stepping (mark : List ℕ) (base : ℕ) (keep : Bool) (was : List ℕ) (t : ℕ) (rows : List ℕ) (last next : ℕ) : Type 0 where
+pub record Stepping (mark : List ℕ) (base : ℕ) (keep : Bool) (was : List Set) (t : ℕ) (rows : List Set) (last next : ℕ) : Type 0 where
   pub under : Underway was rows t last
   pub done : (r : ℕ) → r < t → Exactly (row_in rows r) (MovedTo mark base keep was r)
   pub live : Exactly next (λ q. (q < t) × SomeIn rows q)
 
-pub not_empty_some : {x q : ℕ} {rows : List ℕ} → row_in rows q ≡ x → (Empty x → ⊥) → SomeIn rows q
+pub not_empty_some : {x q : ℕ} {rows : List Set} → row_in rows q ≡ x → (Empty x → ⊥) → SomeIn rows q
 unfolding Empty
 not_empty_some {x} {q} {rows} e n =
     let c = some_held x (λ z. n (λ d h. none_in_zero d (subst (λ (y : ℕ). Holds y d) z h))) in
     record { number = c.0; held = subst (λ (y : ℕ). Holds y c.0) (sym e) c.1 }
 
-pub empty_none : {x q : ℕ} {rows : List ℕ} → row_in rows q ≡ x → Empty x → SomeIn rows q → ⊥
+pub empty_none : {x q : ℕ} {rows : List Set} → row_in rows q ≡ x → Empty x → SomeIn rows q → ⊥
 unfolding Empty
 empty_none e n s = n s.number (subst (λ (y : ℕ). Holds y s.number) e s.held)
 
-some_as : {a b : List ℕ} {q : ℕ} → row_in a q ≡ row_in b q → SomeIn a q → SomeIn b q
+some_as : {a b : List Set} {q : ℕ} → row_in a q ≡ row_in b q → SomeIn a q → SomeIn b q
 some_as e s = record { number = s.number; held = subst (λ (y : ℕ). Holds y s.number) e s.held }
 
-module _ (mark : List ℕ) (base : ℕ) (keep : Bool) (was : List ℕ) where
+module _ (mark : List ℕ) (base : ℕ) (keep : Bool) (was : List Set) where
   pub step_none : {last : ℕ} → Stepping mark base keep was 0 was last 0
   step_none = record {
     under = record { before = λ l. absurd (omega arith); left = λ q l. refl };
@@ -47,7 +48,7 @@ module _ (mark : List ℕ) (base : ℕ) (keep : Bool) (was : List ℕ) where
     live = collect_none (SomeIn was) (λ e l. absurd (omega arith));
   }
 
-  pub step_more : {t last next here come row next' : ℕ} {rows rows' : List ℕ} {yes : Bool} → Stepping mark base keep was t rows last next → here ≡ row_in rows t
+  pub step_more : {t last next here come row next' : ℕ} {rows rows' : List Set} {yes : Bool} → Stepping mark base keep was t rows last next → here ≡ row_in rows t
       → Exactly come (Arrived mark base was t) → Exactly row (λ k. Holds come k ⊎ ((keep ≡ true) × Holds here k)) → PutRow rows t row rows'
       → Tells yes (SomeIn rows' t) → Exactly next' (λ e. Holds next e ⊎ ((e ≡ t) × (yes ≡ true))) → Stepping mark base keep was (t + 1) rows' here next'
   step_more {t} {last} {next} {here} {come} {row} {next'} {rows} {rows'} s h a b p tells n =
@@ -84,7 +85,7 @@ module _ (mark : List ℕ) (base : ℕ) (keep : Bool) (was : List ℕ) where
         let le = enters_from mark (r - 1) q f in
         omega arith
 
-    pub step_moved : {rows : List ℕ} {last next : ℕ} → Stepping mark base keep was end rows last next → Moved mark base keep was rows
+    pub step_moved : {rows : List Set} {last next : ℕ} → Stepping mark base keep was end rows last next → Moved mark base keep was rows
     step_moved {rows} s = record {
       each = λ r m. ⊎_elim
           (λ l. s.done r l)
@@ -95,7 +96,7 @@ module _ (mark : List ℕ) (base : ℕ) (keep : Bool) (was : List ℕ) where
           (lt_or_le r end);
     }
 
-    pub step_live : {rows : List ℕ} {last next : ℕ} → Stepping mark base keep was end rows last next → Exactly next (LiveIn mark rows)
+    pub step_live : {rows : List Set} {last next : ℕ} → Stepping mark base keep was end rows last next → Exactly next (LiveIn mark rows)
     step_live {rows} s = exactly_as
         (λ q x. let l = x.0 in (omega arith, x.1))
         (λ q x. ⊎_elim (λ l. (l, x.1)) (λ l. absurd (nothing q l x.0 (some_as (s.under.left q l) x.1))) (lt_or_le q end))

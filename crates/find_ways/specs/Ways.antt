@@ -2,6 +2,7 @@
 use Rattle.std.specs.Prelude.{◌≡◌, List, [], ◌∷◌, ◌++◌, ℕ, ◌+◌, ◌≤◌, ◌<◌, length, get_or, take}
 use Rattle.bases.specs.Base.{Holds}
 use Rattle.sets.specs.Set.{set_of, Exactly}
+use Rattle.sets.specs.declared.Set.{Set}
 use Rattle.rows.specs.Row.{row_in}
 use Rattle.find_texts.specs.Match.{Matched, StateGoes}
 use Rattle.find_borders.specs.Borders.{Border}
@@ -30,7 +31,7 @@ pub record Continued (mark : List ℕ) (q c : ℕ) : Type 0 where
   pub border : Border mark q number
   pub char : get_or mark number 0 ≡ c
 
-abbrev pub ContinuedRows : List ℕ → ℕ → List ℕ → Type 0
+abbrev pub ContinuedRows : List ℕ → ℕ → List Set → Type 0
 ContinuedRows mark n rows = (q : ℕ) → q < n → Exactly (row_in rows q) (Continued mark q)
 
 -- The base has a character that s has not.

@@ -3,15 +3,25 @@
 
 #![tactic(auto)]
 
-ghost use Rattle.std.specs.Prelude.{◌≡◌, ◌+◌, ◌<◌, length, get_or};
+ghost use Rattle.std.specs.Prelude.{◌≡◌, ◌<◌, length, get_or};
 ghost use Rattle.bases.specs.Base.{Holds, Greatest};
 ghost use Rattle.plain.specs.Tells.{Tells};
 ghost use Rattle.sets.specs.Set.{set_of, Exactly};
 ghost use Rattle.find_borders.specs.Borders.{ShortMark, SameAt, Sames, Border, Borders};
 ghost use Rattle.find_ways.specs.Ways.{FallAt, FallWords, GreatestBelow, Continued, ContinuedRows, Outside, Resets, Allowed, WaysOf};
 
-use find_borders::add_if;
+use find_borders::numbers;
 use sets::Set;
+
+// A mark as it is sought: its characters, for each the states that it leads back, and for each state the characters
+// that lead from it to a state above 0. There is no allocator: words and rows have room for 64 characters, and the
+// text's length tells how many are set.
+#[derive(Clone, Copy)]
+pub struct Mark<'a> {
+    pub text: &'a [u8],
+    pub falls: &'a [u64; 64],
+    pub seen: &'a [Set; 64],
+}
 
 // The ways that the characters of one base make: the states from which one leads to state 0, and the characters of the
 // mark that are among them.
@@ -22,12 +32,12 @@ pub struct Ways {
     pub allowed: u64,
 }
 
-// Whether r is the greatest number of w.
-fn tops(w: u64, r: usize) -> bool
+// Whether r is below q and the greatest number of w.
+fn tops(w: u64, r: usize, q: usize) -> bool
     requires { r < 64 }
-    ensures { Tells result (Greatest w r) }
+    ensures { Tells result ((r < q) × Greatest w r) }
 {
-    w >> r == 1
+    r < q && w >> r == 1
 }
 
 // The states above r that character r of the mark leads back to state r + 1.
@@ -36,13 +46,7 @@ fn falls_at(mark: &[u8], borders: &[u64; 64], same: u64, r: usize) -> u64
     requires borders { Borders mark.now (length mark.now) borders.now × Exactly same (SameAt mark.now (get_or mark.now r 0)) }
     ensures { Exactly result (FallAt mark.now r) }
 {
-    let mut w = 0;
-    let mut q = r + 1;
-    while q < mark.len() {
-        w = add_if(w, q, tops(borders[q] & same, r));
-        q += 1;
-    }
-    w
+    numbers(mark.len(), |q| tops(borders[q] & same, r, q))
 }
 
 // For each character of the mark, the states that it leads back; in the words that tell where the mark has it.
@@ -51,10 +55,8 @@ fn lay_falls(mark: &[u8], borders: &[u64; 64], words: &mut [u64; 64])
     requires borders { Borders mark.now (length mark.now) borders.now × Sames mark.now (length mark.now) words.old }
     ensures { FallWords mark.now (length mark.now) words.new }
 {
-    let mut r = 0;
-    while r < mark.len() {
+    for r in 0..mark.len() {
         words[r] = falls_at(mark, borders, words[r], r);
-        r += 1;
     }
 }
 
@@ -68,7 +70,7 @@ fn greatest_below(w: u64, q: usize) -> usize
 
 // The characters that lead from state q to a state above 0: the mark's next one, and those that lead on from the
 // longest shorter start that it ends with.
-fn seen_at(mark: &[u8], border: u64, seen: &[u64; 256], q: usize) -> Set
+fn seen_at(mark: &[u8], border: u64, seen: &[Set; 64], q: usize) -> Set
     requires short_mark { ShortMark mark.now × (q < length mark.now) }
     requires exactly { Exactly border (Border mark.now q) × ContinuedRows mark.now q seen.now }
     ensures { Exactly (set_of result) (Continued mark.now q) }
@@ -77,25 +79,22 @@ fn seen_at(mark: &[u8], border: u64, seen: &[u64; 256], q: usize) -> Set
     if q == 0 {
         return own;
     }
-    sets::either(own, rows::row_at(seen, greatest_below(border, q)))
+    sets::either(own, seen[greatest_below(border, q)])
 }
 
 // For each state, the characters that lead from it to a state above 0.
-fn lay_seen(mark: &[u8], borders: &[u64; 64], seen: &mut [u64; 256])
+fn lay_seen(mark: &[u8], borders: &[u64; 64], seen: &mut [Set; 64])
     requires short_mark { ShortMark mark.now }
     requires borders { Borders mark.now (length mark.now) borders.now }
     ensures { ContinuedRows mark.now (length mark.now) seen.new }
 {
-    let mut q = 0;
-    while q < mark.len() {
-        let row = seen_at(mark, borders[q], seen, q);
-        rows::put_row(seen, q, row);
-        q += 1;
+    for q in 0..mark.len() {
+        seen[q] = seen_at(mark, borders[q], seen, q);
     }
 }
 
 // All ways of a mark that no base has a part in.
-pub fn lay(mark: &[u8], falls: &mut [u64; 64], seen: &mut [u64; 256])
+pub fn lay(mark: &[u8], falls: &mut [u64; 64], seen: &mut [Set; 64])
     requires { ShortMark mark.now × (length falls.old ≡ 64) }
     ensures fall_words { FallWords mark.now (length mark.now) falls.new }
     ensures continued_rows { ContinuedRows mark.now (length mark.now) seen.new }
@@ -115,18 +114,12 @@ fn leaves(base: Set, s: Set) -> bool
 }
 
 // The states from which some character of the base leads to state 0.
-fn resets(mark: &[u8], seen: &[u64; 256], base: Set) -> u64
+fn resets(mark: &[u8], seen: &[Set; 64], base: Set) -> u64
     requires short_mark { ShortMark mark.now }
     requires continued_rows { ContinuedRows mark.now (length mark.now) seen.now }
     ensures { Resets mark.now (set_of base) result }
 {
-    let mut w = 0;
-    let mut q = 0;
-    while q < mark.len() {
-        w = add_if(w, q, leaves(base, rows::row_at(seen, q)));
-        q += 1;
-    }
-    w
+    numbers(mark.len(), |q| leaves(base, seen[q]))
 }
 
 // The characters of the mark, by their numbers, that the base has.
@@ -134,24 +127,18 @@ fn allowed(mark: &[u8], base: Set) -> u64
     requires { ShortMark mark.now }
     ensures { Allowed mark.now (set_of base) result }
 {
-    let mut w = 0;
-    let mut r = 0;
-    while r < mark.len() {
-        w = add_if(w, r, sets::holds(base, mark[r]));
-        r += 1;
-    }
-    w
+    numbers(mark.len(), |r| sets::holds(base, mark[r]))
 }
 
 // The ways that a base makes.
-pub fn of_base(mark: &[u8], seen: &[u64; 256], base: Set) -> Ways
-    requires short_mark { ShortMark mark.now }
-    requires continued_rows { ContinuedRows mark.now (length mark.now) seen.now }
-    ensures { WaysOf mark.now result × (set_of result.base ≡ set_of base) }
+pub fn of_base(mark: Mark, base: Set) -> Ways
+    requires short_mark { ShortMark mark.text.now }
+    requires continued_rows { ContinuedRows mark.text.now (length mark.text.now) mark.seen.now }
+    ensures { WaysOf mark.entry.text.now result × (set_of result.base ≡ set_of base) }
 {
     Ways {
-        base: base,
-        resets: resets(mark, seen, base),
-        allowed: allowed(mark, base),
+        base,
+        resets: resets(mark.text, mark.seen, base),
+        allowed: allowed(mark.text, base),
     }
 }

@@ -2,7 +2,7 @@
 
 #![tactic(auto)]
 
-ghost use Rattle.std.specs.Prelude.{◌≡◌, List, ◌∷◌, ◌+◌, ◌≤◌, ◌<◌, ℕ, length};
+ghost use Rattle.std.specs.Prelude.{◌≡◌, List, ◌∷◌, ◌+◌, ℕ, length};
 ghost use Rattle.bases.specs.Base.{Holds};
 ghost use Rattle.sets.specs.Set.{set_of, Exactly};
 ghost use Rattle.shapes.specs.Shape.{Sound};
@@ -25,10 +25,8 @@ fn steps(s: Set, held: Set, count: u64) -> Set
     ensures { Exactly (set_of result) (Steps (set_of held) (set_of s) count) }
 {
     let mut r = s;
-    let mut k = 0;
-    while k < count {
+    for _ in 0..count {
         r = step(r, held);
-        k += 1;
     }
     r
 }
@@ -39,31 +37,19 @@ fn steps_up_to(s: Set, held: Set, count: u64) -> Set
 {
     let mut r = s;
     let mut d = s;
-    let mut k = 0;
-    while k < count {
+    for _ in 0..count {
         d = step(d, held);
         r = sets::either(r, d);
-        k += 1;
     }
     r
 }
 
-// The smaller of two: no run is longer than the text.
-fn smaller(m: u64, n: u64) -> u64
-    ensures { (result ≤ m) × ((k : ℕ) → k ≤ m → k ≤ n → k ≤ result) }
-{
-    if n < m {
-        return n;
-    }
-    m
-}
-
-// The row of a block and those after it, from the row of those after it. A text of n characters.
+// The row of a block and those after it, from the row of those after it. A text of n characters: no run is longer.
 pub fn row_before(b: Block, held: Set, after: Set, n: usize) -> Set
     requires { Sound (meant b) }
     ensures { (s : List Meant) (t : List ℕ) → length t ≡ n → HeldAt (meant b).base t (set_of held) → Row s t (set_of after) → Row (meant b ∷ s) t (set_of result) }
 {
     let least = steps(after, held, b.lower);
-    let more = smaller(b.upper - b.lower, n as u64);
+    let more = (b.upper - b.lower).min(n as u64);
     steps_up_to(least, held, more)
 }

@@ -25,7 +25,7 @@ fn add_place(table: &mut [u64], seen: Set, c: usize, p: usize) -> Set
     ensures by_index_2 { (t : List ℕ) → get_or t p 0 ≡ c → SeenTo t p (set_of seen) → SeenTo t (p + 1) (set_of result) }
 {
     let at = p / 64 * CODES + c;
-    table[at] = table[at] | 1u64 << (p % 64);
+    table[at] |= 1 << (p % 64);
     sets::either(seen, sets::single(c))
 }
 
@@ -39,10 +39,8 @@ pub fn add_places(text: &[u8], table: &mut [u64]) -> Set
     ensures seen_to { SeenTo text.now (length text.now) (set_of result) }
 {
     let mut seen = sets::none();
-    let mut p = 0;
-    while p < text.len() {
-        seen = add_place(table, seen, text[p] as usize, p);
-        p += 1;
+    for (p, c) in text.iter().enumerate() {
+        seen = add_place(table, seen, *c as usize, p);
     }
     seen
 }
@@ -69,20 +67,29 @@ fn row_of(table: &[u64], c: usize) -> Set
     }
 }
 
+// The numbers so far, and those of the row of each number of w.
+pub fn gather<F: Fn(usize) -> Set>(w: u64, so_far: Set, row: F) -> Set
+    requires { (e : ℕ) → e < 64 → F.pre row e }
+    ensures { (R : ℕ → ℕ) → ((e : ℕ) (r : _) → e < 64 → F.post row e r → set_of r ≡ R e)
+        → Exactly (set_of result) (AndPicked (set_of so_far) R w) }
+{
+    // std has no walk over the bits of a word: the lowest is taken off each turn.
+    let mut left = w;
+    let mut r = so_far;
+    while left != 0 {
+        r = sets::either(r, row(left.trailing_zeros() as usize));
+        left &= left - 1;
+    }
+    r
+}
+
 // The places of the characters of one word, which stands for those from `from` on, and those so far.
 fn of_word(word: u64, from: usize, table: &[u64], gathered: Set) -> Set
     requires from_bound { from + 64 ≤ codes }
     requires sized { Sized table.now }
     ensures { Exactly (set_of result) (AndPicked (set_of gathered) (λ e. row_of table.now (from + e)) word) }
 {
-    let mut left = word;
-    let mut r = gathered;
-    while left != 0 {
-        let e = u64::trailing_zeros(left) as usize;
-        r = sets::either(r, row_of(table, from + e));
-        left = left & (left - 1);
-    }
-    r
+    gather(word, gathered, |e| row_of(table, from + e))
 }
 
 // The places of some characters.

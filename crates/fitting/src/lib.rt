@@ -6,12 +6,12 @@
 ghost use Rattle.std.specs.Prelude.{◌/◌, ◌≤◌, ◌<◌, length};
 ghost use Rattle.plain.specs.Tells.{Tells};
 ghost use Rattle.sets.specs.Set.{set_of};
-ghost use Rattle.shapes.specs.Shape.{Sound, Fits};
+ghost use Rattle.shapes.specs.Shape.{Fits};
 ghost use Rattle.shapes.specs.Lent.{shape_of, Accepted};
 ghost use Rattle.fit_rows.specs.Rows.{Sized, PlacesOf, SeenTo};
 ghost use Rattle.fitting.specs.Fit.{FitPromise};
 
-use answers::{Checked, Fit};
+use answers::{Fit, Refusal};
 use sets::Set;
 
 // Whether a text of at most 250 characters fits an accepted shape, by the table of its places and the characters seen.
@@ -24,9 +24,7 @@ fn fits_by(shape: &[u64], text: &[u8], table: &[u64], seen: Set) -> bool
     ensures { Tells result (Fits (shape_of shape.now) text.now) }
 {
     let mut row = sets::single(text.len());
-    let mut i = shape.len() / shapes::SIZE;
-    while 0 < i {
-        i -= 1;
+    for i in (0..shape.len() / shapes::SIZE).rev() {
         let b = shapes::block_at(shape, i);
         let held = fit_tables::places(sets::both(b.base, seen), table);
         row = fit_rows::row_before(b, held, row, text.len());
@@ -51,19 +49,12 @@ fn fits_blocks(shape: &[u64], text: &[u8]) -> bool
 }
 
 // Whether a text fits a shape. A text too long simply does not fit.
-pub fn fits(shape: &[u64], text: &[u8]) -> Fit
+pub fn fits(shape: &[u64], text: &[u8]) -> Result<Fit, Refusal>
     ensures { FitPromise shape.now text.now result }
 {
-    match shape_checks::check_lent(shape, 1) {
-        Checked::Refused(r) => Fit::Refused(r),
-        Checked::Sound => {
-            if 250 < text.len() {
-                return Fit::Unfit;
-            }
-            if fits_blocks(shape, text) {
-                return Fit::Fits;
-            }
-            Fit::Unfit
-        }
+    shape_checks::check_lent(shape, 1)?;
+    if text.len() <= 250 && fits_blocks(shape, text) {
+        return Ok(Fit::Fits);
     }
+    Ok(Fit::Unfit)
 }

@@ -4,7 +4,7 @@
 
 ghost use Rattle.std.specs.Prelude.{◌≡◌, ℕ, ◌≤◌, length};
 ghost use Rattle.rules.specs.Limits.{most_texts};
-ghost use Rattle.group_names.specs.Names.{TextNumber, RulesOfTexts, TextNumbers, FirstNames, NewName, Renamed, OneName, RuleLinked, GroupNames};
+ghost use Rattle.group_names.specs.Names.{TextNumber, RulesOfTexts, TextNumbers, FirstNames, Renamed, OneName, RuleLinked, GroupNames};
 
 use rules::Rule;
 
@@ -12,23 +12,7 @@ use rules::Rule;
 fn first_names() -> [u64; rules::TEXTS]
     ensures { FirstNames result }
 {
-    let mut names = [0u64; rules::TEXTS];
-    let mut i = 0;
-    while i < rules::TEXTS {
-        names[i] = i as u64 + 1;
-        i += 1;
-    }
-    names
-}
-
-// What a name becomes where `from` becomes `to`.
-fn new_name(name: u64, from: u64, to: u64) -> u64
-    ensures { NewName from to name result }
-{
-    if name == from {
-        return to;
-    }
-    name
+    std::array::from_fn(|i| i as u64 + 1)
 }
 
 // Gives every text named `from` the name `to`.
@@ -36,11 +20,10 @@ fn rename(names: &mut [u64; rules::TEXTS], from: u64, to: u64)
     requires { length names.old ≡ most_texts }
     ensures { Renamed from to names.old names.new }
 {
-    let mut i = 0;
-    while i < rules::TEXTS {
-        let name = names[i];
-        names[i] = new_name(name, from, to);
-        i += 1;
+    for name in names.iter_mut() {
+        if *name == from {
+            *name = to;
+        }
     }
 }
 
@@ -51,15 +34,9 @@ fn link(names: &mut [u64; rules::TEXTS], a: u64, b: u64)
     requires text_number_2 { TextNumber b }
     ensures { OneName a b names.old names.new }
 {
-    let at_a = (a - 1) as usize;
-    let at_b = (b - 1) as usize;
-    let one = names[at_a];
-    let other = names[at_b];
-    if one < other {
-        rename(names, other, one);
-        return;
-    }
-    rename(names, one, other);
+    let one = names[(a - 1) as usize];
+    let other = names[(b - 1) as usize];
+    rename(names, one.max(other), one.min(other));
 }
 
 // Links the texts of a rule, in a join all three.
@@ -69,10 +46,9 @@ fn link_rule(names: &mut [u64; rules::TEXTS], rule: Rule)
     ensures { RuleLinked rule names.old names.new }
 {
     link(names, rule.a, rule.b);
-    if rule.kind != rules::JOIN {
-        return;
+    if rule.kind == rules::JOIN {
+        link(names, rule.a, rule.c);
     }
-    link(names, rule.a, rule.c);
 }
 
 // The names of the groups that some rules make of at most eight texts.
@@ -80,13 +56,9 @@ pub fn group_names(rules: &[u64]) -> [u64; rules::TEXTS]
     requires { RulesOfTexts rules.now }
     ensures { GroupNames rules.now result }
 {
-    let n = rules.len() / rules::SIZE;
     let mut names = first_names();
-    let mut j = 0;
-    while j < n {
-        let rule = rules::rule_at(rules, j);
-        link_rule(&mut names, rule);
-        j += 1;
+    for j in 0..rules.len() / rules::SIZE {
+        link_rule(&mut names, rules::rule_at(rules, j));
     }
     names
 }

@@ -1,5 +1,5 @@
 -- Rules copied one after the other are the group's own rules, in order. Assumes nothing.
-use mathlib.Core.Path.{◌≡◌, refl, sym, ap, ap₂, ◌∙◌, subst}
+use mathlib.Core.Path.{◌≡◌, refl, sym, ap, ◌∙◌, subst}
 use mathlib.Core.List.{List, [], ◌∷◌, ◌++◌, map, append_assoc}
 use Prim.Native.Nat.{ℕ, ◌+◌, ◌*◌, ◌≤◌, ◌<◌}
 use native.Mathlib.Nat.{add-zero}
@@ -18,7 +18,7 @@ use Rattle.groups.specs.Linked.{first, GroupOf}
 use Rattle.groups.specs.Own.{Picks, end, takes, leaves, OwnRules}
 use Rattle.groups.proofs.Linked.{group_one}
 use Rattle.group_names.specs.Names.{RulesOfTexts, name_of, GroupNames}
-use Rattle.group_rules.specs.Own.{PickedNext, picked, passed, Owned}
+use Rattle.group_rules.specs.Own.{Owned}
 
 -- ---- one more at the end
 
@@ -67,8 +67,9 @@ module _ {rules names : List ℕ} {g j m : ℕ} {row x : List ℕ} (numbered : R
       ap (λ (n : ℕ). take n (rules_of rules)) (add-one j) ∙ take-suc (rules_of rules) j no_rule (omega arith)
       ∙ ap (λ (t : Rule). take j (rules_of rules) ++ (t ∷ [])) (rules_at rules j h)
 
-  pub owned_more : {r : ℕ} {y : List ℕ} → PickedNext (rule_at rules j) names g m x y r → Owned rules g (j + 1) r row y
-  owned_more (picked e f q) =
+  -- one that is of the group, laid behind those that are there
+  pub owned_picked : {y : List ℕ} → name_of names (rule_at rules j).a ≡ g → y ≡ replaced (m * rule_size) (rule_numbers (rule_at rules j)) x → Owned rules g (j + 1) (m + 1) row y
+  owned_picked {y} e q =
       let few = o.few in
       let size = o.size in
       let fits : m * rule_size + rule_size ≤ length x = omega arith in
@@ -77,22 +78,23 @@ module _ {rules names : List ℕ} {g j m : ℕ} {row x : List ℕ} (numbered : R
         own = o.own ++ (rule_at rules j ∷ []);
         picks = subst (λ (l : List Rule). Picks (λ t. GroupOf rules t.a g) l (o.own ++ (rule_at rules j ∷ []))) (sym one_more)
             (takes_last o.picks (subst (GroupOf rules (rule_at rules j).a) e group_is));
-        many = f ∙ ap (λ (n : ℕ). n + 1) o.many ∙ sym (length-append o.own (rule_at rules j ∷ []));
+        many = ap (λ (n : ℕ). n + 1) o.many ∙ sym (length-append o.own (rule_at rules j ∷ []));
         few = omega arith;
-        stand = ap₂ (λ (n : ℕ) (l : List ℕ). take (n * rule_size) l) f q
+        stand = ap (λ (l : List ℕ). take ((m + 1) * rule_size) l) q
             ∙ laid_front (m * rule_size) ((m + 1) * rule_size) (rule_numbers (rule_at rules j)) x (omega arith) (omega arith)
             ∙ ap (λ (l : List ℕ). l ++ rule_numbers (rule_at rules j)) o.stand ∙ sym (numbers_last o.own (rule_at rules j));
       }
-  owned_more (passed d f q) =
-      let few = o.few in
-      record {
-        size = ap length q ∙ o.size;
-        own = o.own;
-        picks = subst (λ (l : List Rule). Picks (λ t. GroupOf rules t.a g) l o.own) (sym one_more) (leaves_last o.picks (λ x. d (group_one group_is x)));
-        many = f ∙ o.many;
-        few = omega arith;
-        stand = ap₂ (λ (n : ℕ) (l : List ℕ). take (n * rule_size) l) f q ∙ o.stand;
-      }
+
+  -- and one that is not
+  pub owned_passed : (name_of names (rule_at rules j).a ≡ g → ⊥) → Owned rules g (j + 1) m row x
+  owned_passed d = record {
+    size = o.size;
+    own = o.own;
+    picks = subst (λ (l : List Rule). Picks (λ t. GroupOf rules t.a g) l o.own) (sym one_more) (leaves_last o.picks (λ x. d (group_one group_is x)));
+    many = o.many;
+    few = let few = o.few in omega arith;
+    stand = o.stand;
+  }
 
 -- ---- all rules
 

@@ -38,8 +38,7 @@ fn run_group(
     if m == 0 {
         return Ended::Stable(0);
     }
-    let end = m * rules::SIZE;
-    book_rounds::run_accepted(counts, blocks, &own[..end])
+    book_rounds::run_accepted(counts, blocks, &own[..m * rules::SIZE])
 }
 
 // The turn of the text whose place is k: its group is run if this text names it; else its record is that of the text
@@ -49,21 +48,20 @@ fn turn(
     blocks: &mut [u64],
     rules: &[u64],
     names: &[u64; rules::TEXTS],
-    texts: [TextRan; rules::TEXTS],
+    texts: &[TextRan; rules::TEXTS],
     k: usize,
 ) -> TextRan
     requires running { Running counts.now blocks.old rules.now }
     requires group_names { GroupNames rules.now names.now }
     requires k_lt_most_texts { k < most_texts }
-    ensures { Turn counts.now rules.now names.now k blocks.old blocks.new texts result }
+    ensures { Turn counts.now rules.now names.now k blocks.old blocks.new texts.now result }
 {
     let name = names[k];
     if name == k as u64 + 1 {
         let ended = run_group(counts, blocks, rules, names, name);
         return TextRan { group: name, ended };
     }
-    let at = (name - 1) as usize;
-    texts[at]
+    texts[(name - 1) as usize]
 }
 
 // Runs an accepted book, group after group: a record for each text, and up to eight of no text. The final shapes of the
@@ -73,12 +71,9 @@ pub fn run_groups(counts: &[u64], blocks: &mut [u64], rules: &[u64]) -> [TextRan
     ensures { RowRan counts.now blocks.old rules.now blocks.new result }
 {
     let names = group_names::group_names(rules);
-    let n = counts.len();
     let mut texts = [no_text(); rules::TEXTS];
-    let mut k = 0;
-    while k < n {
-        texts[k] = turn(counts, blocks, rules, &names, texts, k);
-        k += 1;
+    for k in 0..counts.len() {
+        texts[k] = turn(counts, blocks, rules, &names, &texts, k);
     }
     texts
 }

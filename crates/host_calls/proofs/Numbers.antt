@@ -1,4 +1,5 @@
 -- The number that a host is handed: its sign tells a report from a refusal, and its size which. Assumes nothing.
+use Rattle.std.specs.Prelude.{Result, Ok, Err}
 use mathlib.Core.Path.{◌≡◌, refl, sym, ap, ◌∙◌, subst}
 use mathlib.Core.List.{List}
 use Prim.Native.Nat.{ℕ, zero, suc, ◌≤◌}
@@ -7,8 +8,6 @@ use lib.IntN.{ℤ, pos, negsuc, neg_ℤ}
 use Rattle.answers.specs.Told.{told}
 use Rattle.answers.specs.declared.Refusal.{Refusal}
 use Rattle.answers.proofs.Told.{numbered}
-use Rattle.answers.specs.declared.Written.{Written}
-use Rattle.answers.specs.declared.Written.TheVariants.{Text, Refused}
 use Rattle.file_runs.specs.Promise.{LentPromise}
 use Rattle.host_calls.specs.Host.{negated, handed, HostPromise}
 
@@ -47,18 +46,18 @@ same_count e = ap size e
 -- ---- what the number tells of the answer
 
 pub host_written : (book report work report' work' : List ℕ) (n : ℕ) → HostPromise book report work report' work' (pos n)
-    → LentPromise book report work report' work' (Text n)
+    → LentPromise book report work report' work' (Ok n)
 host_written book report work report' work' n p = of p.answer p.runs p.number
   where
-    of : (x : Written) → LentPromise book report work report' work' x → pos n ≡ handed x → LentPromise book report work report' work' (Text n)
-    of (Text m) l e = subst (λ (k : ℕ). LentPromise book report work report' work' (Text k)) (sym (same_count e)) l
-    of (Refused q) l e = absurd (not_count n q e)
+    of : (x : Result ℕ Refusal) → LentPromise book report work report' work' x → pos n ≡ handed x → LentPromise book report work report' work' (Ok n)
+    of (Ok m) l e = subst (λ (k : ℕ). LentPromise book report work report' work' (Ok k)) (sym (same_count e)) l
+    of (Err q) l e = absurd (not_count n q e)
 
 pub host_refused : (book report work report' work' : List ℕ) (q : Refusal) → HostPromise book report work report' work' (negated q)
-    → (r : Refusal) × LentPromise book report work report' work' (Refused r) × ((told r).number ≡ (told q).number)
+    → (r : Refusal) × LentPromise book report work report' work' (Err r) × ((told r).number ≡ (told q).number)
 host_refused book report work report' work' q p = of p.answer p.runs p.number
   where
-    of : (x : Written) → LentPromise book report work report' work' x → negated q ≡ handed x
-        → (r : Refusal) × LentPromise book report work report' work' (Refused r) × ((told r).number ≡ (told q).number)
-    of (Text m) l e = absurd (not_count m q (sym e))
-    of (Refused r) l e = (r, l, sym (same_number q r e))
+    of : (x : Result ℕ Refusal) → LentPromise book report work report' work' x → negated q ≡ handed x
+        → (r : Refusal) × LentPromise book report work report' work' (Err r) × ((told r).number ≡ (told q).number)
+    of (Ok m) l e = absurd (not_count m q (sym e))
+    of (Err r) l e = (r, l, sym (same_number q r e))

@@ -4,15 +4,13 @@
 
 ghost use Rattle.host_calls.specs.Host.{HostPromise};
 
-use answers::Written;
-
 // Runs a book file to its report with a lent work buffer. It hands back the report's length, or the refusal's number
 // made negative.
 pub fn run(book: &[u8], report: &mut [u8], work: &mut [u8]) -> i64
     ensures { HostPromise book.now report.old work.old report.new work.new result }
 {
     match file_calls::run_lent(book, report, work) {
-        Written::Text(n) => n as i64,
-        Written::Refused(r) => -(answers::number(r) as i64),
+        Ok(n) => n as i64,
+        Err(r) => -(r.number() as i64),
     }
 }

@@ -4,7 +4,7 @@
 
 ghost use Rattle.joins.specs.Join.{JoinPromise};
 
-use answers::{Checked, Narrowed};
+use answers::{Narrowed, Refusal};
 
 // The call: the refusals, then the narrowing; the work buffer is handed back cleared.
 pub fn narrow(
@@ -15,18 +15,14 @@ pub fn narrow(
     out_x: &mut [u64],
     out_y: &mut [u64],
     out_z: &mut [u64],
-) -> Narrowed
+) -> Result<Narrowed, Refusal>
     ensures { JoinPromise x.now y.now z.now work.old out_x.old out_y.old out_z.old
         work.new out_x.new out_y.new out_z.new result }
 {
-    match join_checks::check(x, y, z, work.len(), out_x.len(), out_y.len(), out_z.len()) {
-        Checked::Refused(r) => Narrowed::Refused(r),
-        Checked::Sound => {
-            pairs::clear(work);
-            if joins::narrow_accepted(x, y, z, out_x, out_y, out_z) {
-                return Narrowed::Narrow;
-            }
-            Narrowed::None
-        }
+    join_checks::check(x, y, z, work.len(), out_x.len(), out_y.len(), out_z.len())?;
+    pairs::clear(work);
+    if joins::narrow_accepted(x, y, z, out_x, out_y, out_z) {
+        return Ok(Narrowed::Narrow);
     }
+    Ok(Narrowed::None)
 }

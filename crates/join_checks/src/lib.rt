@@ -2,44 +2,12 @@
 
 #![tactic(auto)]
 
-ghost use Rattle.shapes.specs.Lent.{Accepted};
 ghost use Rattle.joins.specs.Refused.{JoinChecked};
 
-use answers::{Checked, Refusal};
+use answers::Refusal;
 
-// What else is refused of three shapes: 12, then the room, given its lengths.
-fn check_rest(
-    x: &[u64],
-    y: &[u64],
-    z: &[u64],
-    work: usize,
-    first: usize,
-    second: usize,
-    third: usize,
-) -> Checked
-    requires { Accepted x.now × Accepted y.now × Accepted z.now }
-    ensures { JoinChecked x.now y.now z.now work first second third result }
-{
-    let upper = shapes::total_upper(y) + shapes::total_upper(z);
-    if 250 < upper {
-        return Checked::Refused(Refusal::Join(0));
-    }
-    if work < 63001 {
-        return Checked::Refused(Refusal::Work);
-    }
-    if first < x.len() {
-        return Checked::Refused(Refusal::Output(1));
-    }
-    if second < y.len() {
-        return Checked::Refused(Refusal::Output(2));
-    }
-    if third < z.len() {
-        return Checked::Refused(Refusal::Output(3));
-    }
-    Checked::Sound
-}
-
-// All refusals: those of the shapes, one after the other, then the rest.
+// All refusals: those of the shapes, one after the other; that what is joined is too long; then the room, given its
+// lengths: single numbers, as in pair_checks.
 pub fn check(
     x: &[u64],
     y: &[u64],
@@ -48,20 +16,27 @@ pub fn check(
     first: usize,
     second: usize,
     third: usize,
-) -> Checked
+) -> Result<(), Refusal>
     ensures { JoinChecked x.now y.now z.now work first second third result }
 {
-    match shape_checks::check_lent(x, 1) {
-        Checked::Refused(r) => return Checked::Refused(r),
-        Checked::Sound => {}
+    shape_checks::check_lent(x, 1)?;
+    shape_checks::check_lent(y, 2)?;
+    shape_checks::check_lent(z, 3)?;
+    let upper = shapes::total_upper(y) + shapes::total_upper(z);
+    if 250 < upper {
+        return Err(Refusal::Join(0));
     }
-    match shape_checks::check_lent(y, 2) {
-        Checked::Refused(r) => return Checked::Refused(r),
-        Checked::Sound => {}
+    if work < 63001 {
+        return Err(Refusal::Work);
     }
-    match shape_checks::check_lent(z, 3) {
-        Checked::Refused(r) => return Checked::Refused(r),
-        Checked::Sound => {}
+    if first < x.len() {
+        return Err(Refusal::Output(1));
     }
-    check_rest(x, y, z, work, first, second, third)
+    if second < y.len() {
+        return Err(Refusal::Output(2));
+    }
+    if third < z.len() {
+        return Err(Refusal::Output(3));
+    }
+    Ok(())
 }

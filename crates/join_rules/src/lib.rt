@@ -30,26 +30,17 @@ fn narrow_three(
     ensures { JoinAnswer (numbers_in counts.now numbers.now rule.a) (numbers_in counts.now numbers.now rule.b)
         (numbers_in counts.now numbers.now rule.c) x.old y.old z.old x.new y.new z.new result }
 {
-    let line = books::range_of(counts, rule.a as usize);
-    let front = books::range_of(counts, rule.b as usize);
-    let back = books::range_of(counts, rule.c as usize);
-    let line_from = line.from;
-    let line_to = line.to;
-    let front_from = front.from;
-    let front_to = front.to;
-    let back_from = back.from;
-    let back_to = back.to;
     joins::narrow_accepted(
-        &numbers[line_from..line_to],
-        &numbers[front_from..front_to],
-        &numbers[back_from..back_to],
+        books::text(counts, numbers, rule.a as usize),
+        books::text(counts, numbers, rule.b as usize),
+        books::text(counts, numbers, rule.c as usize),
         x,
         y,
         z,
     )
 }
 
-// Applies a join.
+// Applies a join. No twin of `two_rules::apply_two`: it narrows by another promise, `JoinAnswer`, over three texts.
 pub fn apply_three(counts: &[u64], numbers: &mut [u64], rule: Rule) -> Applied
     requires texts { Texts counts.now numbers.old }
     requires sound_rule { SoundRule counts.now (shape_of numbers.old) rule }
@@ -62,9 +53,10 @@ pub fn apply_three(counts: &[u64], numbers: &mut [u64], rule: Rule) -> Applied
     if !narrow_three(counts, numbers, rule, &mut x, &mut y, &mut z) {
         return Applied::None;
     }
-    let first = book_steps::lay_text(counts, numbers, rule.a, &x, true);
-    let second = book_steps::lay_text(counts, numbers, rule.b, &y, first);
-    if book_steps::lay_text(counts, numbers, rule.c, &z, second) {
+    let same_a = book_steps::lay_text(counts, numbers, rule.a, &x);
+    let same_b = book_steps::lay_text(counts, numbers, rule.b, &y);
+    let same_c = book_steps::lay_text(counts, numbers, rule.c, &z);
+    if same_a && same_b && same_c {
         return Applied::Same;
     }
     Applied::Changed

@@ -5,8 +5,10 @@ use Prim.Native.Nat.{ℕ}
 use native.Mathlib.Omega.{arith}
 use lib.ListN.{length, take, drop, length-append}
 use lib.Seq.{take_at, drop_at}
+use Rattle.std.specs.Prelude.{Result, Ok, Err}
+use Rattle.answers.specs.declared.Refusal.{Refusal}
 use Rattle.answers.specs.declared.Narrowed.{Narrowed}
-use Rattle.answers.specs.declared.Narrowed.TheVariants.{Narrow, None as no-triple, Refused}
+use Rattle.answers.specs.declared.Narrowed.TheVariants.{Narrow, None as no-triple}
 use Rattle.answers.proofs.Told.{told_one}
 use Rattle.shapes.specs.Shape.{Block}
 use Rattle.shapes.specs.Lent.{shape_of, words_of}
@@ -45,25 +47,25 @@ module _ (xs ys zs ox oy oz : List ℕ) where
       )
 
 module _ (xs ys zs work ox oy oz : List ℕ) {work' ox' oy' oz' work'' ox'' oy'' oz'' : List ℕ} where
-  pub join_determined : (r s : Narrowed) → JoinPromise xs ys zs work ox oy oz work' ox' oy' oz' r → JoinPromise xs ys zs work ox oy oz work'' ox'' oy'' oz'' s
+  pub join_determined : (r s : Result Narrowed Refusal) → JoinPromise xs ys zs work ox oy oz work' ox' oy' oz' r → JoinPromise xs ys zs work ox oy oz work'' ox'' oy'' oz'' s
       → (r ≡ s) × (work' ≡ work'') × (ox' ≡ ox'') × (oy' ≡ oy'') × (oz' ≡ oz'')
-  join_determined Narrow Narrow p q =
+  join_determined (Ok Narrow) (Ok Narrow) p q =
       let o = join_narrows_one xs ys zs ox oy oz p.1 q.1 in (refl, p.0.work_cleared ∙ sym q.0.work_cleared, o.0, o.1, o.2)
-  join_determined Narrow no-triple p q = absurd (hull_or_none p.1.hull q.1.none)
-  join_determined Narrow (Refused s) p q = absurd (join_refused_not q.0 p.0.shapes p.0.room)
-  join_determined no-triple Narrow p q = absurd (hull_or_none q.1.hull p.1.none)
-  join_determined no-triple no-triple p q = (
+  join_determined (Ok Narrow) (Ok no-triple) p q = absurd (hull_or_none p.1.hull q.1.none)
+  join_determined (Ok Narrow) (Err s) p q = absurd (join_refused_not q.0 p.0.shapes p.0.room)
+  join_determined (Ok no-triple) (Ok Narrow) p q = absurd (hull_or_none q.1.hull p.1.none)
+  join_determined (Ok no-triple) (Ok no-triple) p q = (
     refl,
     p.0.work_cleared ∙ sym q.0.work_cleared,
     p.1.first_output ∙ sym q.1.first_output,
     p.1.second_output ∙ sym q.1.second_output,
     p.1.third_output ∙ sym q.1.third_output,
   )
-  join_determined no-triple (Refused s) p q = absurd (join_refused_not q.0 p.0.shapes p.0.room)
-  join_determined (Refused r) Narrow p q = absurd (join_refused_not p.0 q.0.shapes q.0.room)
-  join_determined (Refused r) no-triple p q = absurd (join_refused_not p.0 q.0.shapes q.0.room)
-  join_determined (Refused r) (Refused s) p q = (
-    ap Refused (told_one r s (join_refused_one p.0 q.0)),
+  join_determined (Ok no-triple) (Err s) p q = absurd (join_refused_not q.0 p.0.shapes p.0.room)
+  join_determined (Err r) (Ok Narrow) p q = absurd (join_refused_not p.0 q.0.shapes q.0.room)
+  join_determined (Err r) (Ok no-triple) p q = absurd (join_refused_not p.0 q.0.shapes q.0.room)
+  join_determined (Err r) (Err s) p q = (
+    ap Err (told_one r s (join_refused_one p.0 q.0)),
     p.1.work_kept ∙ sym q.1.work_kept,
     p.1.first_kept ∙ sym q.1.first_kept,
     p.1.second_kept ∙ sym q.1.second_kept,

@@ -1,13 +1,11 @@
--- One join has one refusal, and none if it is accepted; and what the check has found so far. Assumes nothing.
+-- One join has one refusal, and none if it is accepted. Assumes nothing.
 use mathlib.Core.Path.{◌≡◌}
 use mathlib.Core.List.{List}
 use Prim.Native.Nat.{ℕ}
 use Rattle.answers.specs.Told.{Told}
-use Rattle.answers.specs.Turns.{later, FirstDue}
 use Rattle.answers.proofs.Turns.{OneOf, need_one, in_turn_one}
-use Rattle.shapes.specs.Lent.{Accepted}
 use Rattle.shapes.proofs.Refused.{of_shape_lem}
-use Rattle.joins.specs.Refused.{JoinAccepted, JoinRoom, rest_turns, join_turns, JoinRefused, of_join}
+use Rattle.joins.specs.Refused.{JoinAccepted, JoinRoom, join_turns, JoinRefused, of_join}
 
 module _ {xs ys zs : List ℕ} {w a b c : ℕ} where
   of_join_lem : OneOf (of_join xs ys zs w a b c)
@@ -19,7 +17,3 @@ module _ {xs ys zs : List ℕ} {w a b c : ℕ} where
 
   pub join_refused_not : {t : Told} → JoinRefused xs ys zs w a b c t → JoinAccepted xs ys zs → JoinRoom xs ys zs w a b c → ⊥
   join_refused_not p ok r = of_join_lem.not p (ok, r)
-
-  -- where the three are shapes, what is due is due of the rest
-  pub rest_refused : {t : Told} → Accepted xs × Accepted ys × Accepted zs → FirstDue (rest_turns xs ys zs w a b c) t → JoinRefused xs ys zs w a b c t
-  rest_refused ok p = later ok.0 (later ok.1 (later ok.2 p))

@@ -1,9 +1,10 @@
 -- Document 02, order 3: what narrowing a join promises: "all three are narrowed over triples of fillings that satisfy
 -- it". Lent: three shapes xs, ys and zs, work, three outputs ox, oy and oz; with ' they are as handed back.
-use Rattle.std.specs.Prelude.{◌≡◌, Bool, true, false, List, ◌++◌, ℕ, length, take, drop}
+use Rattle.std.specs.Prelude.{◌≡◌, Bool, true, false, List, ◌++◌, ℕ, length, take, drop, Result, Ok, Err}
 use Rattle.answers.specs.Told.{told}
+use Rattle.answers.specs.declared.Refusal.{Refusal}
 use Rattle.answers.specs.declared.Narrowed.{Narrowed}
-use Rattle.answers.specs.declared.Narrowed.TheVariants.{Narrow, None as no-triple, Refused}
+use Rattle.answers.specs.declared.Narrowed.TheVariants.{Narrow, None as no-triple}
 use Rattle.shapes.specs.Shape.{Block, text_of}
 use Rattle.shapes.specs.Lent.{shape_of, words_of}
 use Rattle.hulls.specs.Hull.{None, Hull}
@@ -50,8 +51,8 @@ pub record JoinUntouched (work ox oy oz work' ox' oy' oz' : List ℕ) : Type 0 w
   pub second_kept : oy' ≡ oy
   pub third_kept : oz' ≡ oz
 
-abbrev pub JoinPromise : List ℕ → List ℕ → List ℕ → List ℕ → List ℕ → List ℕ → List ℕ → List ℕ → List ℕ → List ℕ → List ℕ → Narrowed → Type 0
-JoinPromise xs ys zs work ox oy oz work' ox' oy' oz' Narrow = JoinAccepts xs ys zs work ox oy oz work' × JoinNarrows xs ys zs ox oy oz ox' oy' oz'
-JoinPromise xs ys zs work ox oy oz work' ox' oy' oz' no-triple = JoinAccepts xs ys zs work ox oy oz work' × NoTriple xs ys zs ox oy oz ox' oy' oz'
-JoinPromise xs ys zs work ox oy oz work' ox' oy' oz' (Refused r) =
+abbrev pub JoinPromise : List ℕ → List ℕ → List ℕ → List ℕ → List ℕ → List ℕ → List ℕ → List ℕ → List ℕ → List ℕ → List ℕ → Result Narrowed Refusal → Type 0
+JoinPromise xs ys zs work ox oy oz work' ox' oy' oz' (Ok Narrow) = JoinAccepts xs ys zs work ox oy oz work' × JoinNarrows xs ys zs ox oy oz ox' oy' oz'
+JoinPromise xs ys zs work ox oy oz work' ox' oy' oz' (Ok no-triple) = JoinAccepts xs ys zs work ox oy oz work' × NoTriple xs ys zs ox oy oz ox' oy' oz'
+JoinPromise xs ys zs work ox oy oz work' ox' oy' oz' (Err r) =
     JoinRefused xs ys zs (length work) (length ox) (length oy) (length oz) (told r) × JoinUntouched work ox oy oz work' ox' oy' oz'

@@ -1,8 +1,8 @@
 -- Document 02, order 3: the refusals of a join, the text of the shape xs being that of ys followed by that of zs.
-use Rattle.std.specs.Prelude.{List, [], ◌∷◌, ℕ, ◌+◌, ◌≤◌, length}
+use Rattle.std.specs.Prelude.{List, [], ◌∷◌, ℕ, ◌+◌, ◌≤◌, length, Result}
 use Rattle.answers.specs.Told.{Told, tell}
 use Rattle.answers.specs.Turns.{Turn, FirstDue, in_turn, TurnChecked, need}
-use Rattle.answers.specs.declared.Checked.{Checked}
+use Rattle.answers.specs.declared.Refusal.{Refusal}
 use Rattle.shapes.specs.Shape.{total}
 use Rattle.shapes.specs.Lent.{shape_of, Accepted, of_shape}
 
@@ -40,5 +40,5 @@ JoinRefused xs ys zs w a b c = FirstDue (join_turns xs ys zs w a b c)
 abbrev pub of_join : List ℕ → List ℕ → List ℕ → ℕ → ℕ → ℕ → ℕ → Turn
 of_join xs ys zs w a b c = in_turn (JoinAccepted xs ys zs × JoinRoom xs ys zs w a b c) (join_turns xs ys zs w a b c)
 
-abbrev pub JoinChecked : List ℕ → List ℕ → List ℕ → ℕ → ℕ → ℕ → ℕ → Checked → Type 0
+abbrev pub JoinChecked : List ℕ → List ℕ → List ℕ → ℕ → ℕ → ℕ → ℕ → Result Unit Refusal → Type 0
 JoinChecked xs ys zs w a b c = TurnChecked (of_join xs ys zs w a b c)

@@ -11,13 +11,8 @@ pub fn lay(numbers: &mut [u64], at: usize, new: &[u64])
     requires { at + length new.now ≤ length numbers.old }
     ensures { numbers.new ≡ replaced at new.now numbers.old }
 {
-    let n = new.len();
-    let mut i = 0;
-    while i < n {
-        let place = at + i;
-        numbers[place] = new[i];
-        i += 1;
-    }
+    let end = at + new.len();
+    numbers[at..end].copy_from_slice(new);
 }
 
 // Whether two runs of numbers, as long as each other, are the same.
@@ -25,13 +20,5 @@ pub fn same_numbers(one: &[u64], other: &[u64]) -> bool
     requires { length one.now ≡ length other.now }
     ensures { Tells result (one.now ≡ other.now) }
 {
-    let n = one.len();
-    let mut i = 0;
-    while i < n {
-        if one[i] != other[i] {
-            return false;
-        }
-        i += 1;
-    }
-    true
+    one == other
 }

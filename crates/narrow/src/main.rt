@@ -11,15 +11,12 @@ ghost use Rattle.file_runs.specs.Ends.{FileEnds};
 ghost use Rattle.file_runs.specs.Promise.{Report};
 ghost use Rattle.narrow.specs.Printed.{Printed};
 
-use answers::Written;
-use streams::Input;
-
 // One byte more than a file may have, so that a larger one shows.
 fn main(rt: HostRuntime) {
     let mut file = [0u8; file_lines::FILE_LIMIT + 1];
     match streams::read_input(rt.stdin(), &mut file) {
-        Input::Bytes(n) => answer(&file[..n]),
-        Input::Failed => streams::complain(b"narrow: the input cannot be read\n"),
+        Some(n) => answer(&file[..n]),
+        None => streams::complain(b"narrow: the input cannot be read\n"),
     }
 }
 
@@ -37,8 +34,8 @@ fn report_of(file: &[u8], report: &mut [u8]) -> usize
     ensures { Report (FileEnds file.now) report.old report.new result }
 {
     match dashed::run_file(file, report) {
-        Written::Text(n) => n,
-        Written::Refused(r) => file_reports::write_refused(r, report),
+        Ok(n) => n,
+        Err(r) => file_reports::write_refused(r, report),
     }
 }
 

@@ -5,6 +5,7 @@ use Prim.Native.Nat.{ℕ, ◌^◌, ◌≤◌, ◌<◌}
 use native.Mathlib.Omega.{arith}
 use lib.ListN.{length, get_or, take}
 use Rattle.bases.specs.Base.{Holds, codes}
+use Rattle.sets.specs.declared.Set.{Set}
 use Rattle.sets.specs.Set.{set_of, Exactly}
 use Rattle.sets.proofs.Exact.{held_under}
 use Rattle.plain.specs.All.{All}
@@ -15,7 +16,8 @@ use Rattle.shapes.proofs.Lent.{shape_length, shape_at}
 use Rattle.hulls.specs.Hull.{None}
 use Rattle.walks.specs.Walk.{slot_at, stay}
 use Rattle.walks.proofs.Laid.{slots, bounded}
-use Rattle.rows.specs.Row.{row_in}
+use Rattle.rows.specs.declared.LaidBlock.{LaidBlock}
+use Rattle.rows.specs.Row.{row_in, zone_in, end_in, slot_in}
 use Rattle.rows.specs.Steps.{AnyOf}
 use Rattle.row_blocks.specs.Blocks.{LengthBy, SomeLength, ToldBy, ToldTo}
 use Rattle.row_blocks.proofs.Out.{narrowed, narrowed_size, narrowed_at, narrowed_out}
@@ -32,8 +34,8 @@ use Rattle.order_back.specs.Back.{Gathers}
 use Rattle.order_by_text.specs.Freed.{Freed}
 use Rattle.order_by_text.specs.Narrowed.{OneNarrowed}
 
-module _ {x z e s : List ℕ} (l : Laid x z e s) {u : ℕ} (size : u ≡ total (shape_of x)) (G : Guide) {k : ℕ} {chars : List ℕ} {g : Gathered} (blocks : k ≡ block_count x)
-    (t : Gathers (slot_at (shape_of x)) G u s k chars g) where
+module _ {x : List ℕ} {y : List LaidBlock} (l : Laid x y) {u : ℕ} (size : u ≡ total (shape_of x)) (G : Guide) {chars : List Set} {g : Gathered}
+    (t : Gathers (slot_at (shape_of x)) G u y chars g) where
   -- the first row tells whether some text is on the right side
   pub none_right : (Holds (set_of g.clear) 0 → ⊥) → None (KeptTo G) (shape_of x)
   none_right n = side_none (shape_of x) (slots (shape_of x)) (bounded (shape_of x)) G
@@ -43,10 +45,10 @@ module _ {x z e s : List ℕ} (l : Laid x z e s) {u : ℕ} (size : u ≡ total (
     clear : Clear (slot_at (shape_of x)) G (total (shape_of x)) 0 0
     clear = subst (λ (n : ℕ). Clear (slot_at (shape_of x)) G n 0 0) size (t.pass.rests.so 0 first)
 
-    module _ {free : ℕ} (all : Exactly free (AnyOf (row_in z) k)) {chars' : List ℕ} {quit moved : ℕ} (f : Freed s k u free g chars chars' quit moved) where
-      known : Known (slot_at (shape_of x)) G (total (shape_of x)) (row_in s) k quit moved (row_in chars')
-      known = subst (λ (n : ℕ). Known (slot_at (shape_of x)) G n (row_in s) k quit moved (row_in chars')) size
-          (f.holds (slot_at (shape_of x)) G (row_in z) (row_in e) (laid_zones l blocks) all t)
+    module _ {free : ℕ} (all : Exactly free (AnyOf (zone_in y) (length y))) {chars' : List Set} {quit moved : ℕ} (f : Freed y u free g chars chars' quit moved) where
+      known : Known (slot_at (shape_of x)) G (total (shape_of x)) (slot_in y) (length y) quit moved (row_in chars')
+      known = subst (λ (n : ℕ). Known (slot_at (shape_of x)) G n (slot_in y) (length y) quit moved (row_in chars')) size
+          (f.holds (slot_at (shape_of x)) G (zone_in y) (end_in y) (laid_zones l l.long) all t)
 
       spot_at : (i : ℕ) → i < length (shape_of x) → Spot (slot_at (shape_of x)) (total (shape_of x)) (total (take i (shape_of x))) (get_or (shape_of x) i no_block)
       spot_at i h = spot (shape_of x) (slots (shape_of x)) (bounded (shape_of x)) l.whole.sound i h
@@ -67,7 +69,7 @@ module _ {x z e s : List ℕ} (l : Laid x z e s) {u : ℕ} (size : u ≡ total (
             let w = shape_length x in
             let n = some_ends i h in
             let lent : i < block_count x = omega arith in
-            told_collected (spot_at i h) known i (omega arith) (l.lay.slot i h) n.1 (λ c y. let v = held_under codes (all_at no_block small i h) c y in omega arith)
+            told_collected (spot_at i h) known i (omega (arith, l.long)) (l.lay.slot i h) n.1 (λ c y. let v = held_under codes (all_at no_block small i h) c y in omega arith)
             (subst (ToldBy (row_in chars' i) quit moved (total (take i (shape_of x))) (get_or (shape_of x) i no_block)) (sym (narrowed_at x out out' l.whole.blocks room told i lent))
             (subst (λ (b : Block). ToldBy (row_in chars' i) quit moved (total (take i (shape_of x))) b (block_at out' i)) (sym (shape_at x i no_block lent)) (told.blocks i lent)))
 

@@ -142,13 +142,6 @@ module _ (T : List ℕ) (q : ℕ) where
 
 -- ---- where it stays the same
 
-pub steady_one : (d : Direction) (strict : Bool) (T : List ℕ) (lo hi : ℕ) → lo ≡ hi - 1 → Steady (guide_of d strict T) lo hi
-steady_one d strict T lo hi e = record {
-  same = λ q l h. ap (next_of T) (let z : q ≡ hi - 1 = omega arith in z);
-  apart = λ q l h. ap (apart_of d T) (let z : q ≡ hi - 1 = omega arith in z);
-  ends = λ q l h. ap (ends_of d strict T) (let z : q ≡ hi - 1 = omega arith in z);
-}
-
 -- one character, again and again
 pub steady_run : (d : Direction) (strict : Bool) (T : List ℕ) (lo hi : ℕ) → hi ≤ length T → ((q : ℕ) → lo ≤ q → q < hi → get_or T q 0 ≡ get_or T (hi - 1) 0)
     → Steady (guide_of d strict T) lo hi

@@ -1,4 +1,4 @@
--- The guide of the first m bytes of a text, as the code asks for it. Assumes nothing.
+-- The guide of a text, as the code asks for it. Assumes nothing.
 use mathlib.Core.Path.{◌≡◌, sym, ap, ◌∙◌, subst}
 use mathlib.Core.Bool.{Bool, true, false, not}
 use mathlib.Core.List.{List}
@@ -14,31 +14,24 @@ use Rattle.sets.specs.Set.{Exactly}
 use Rattle.sets.proofs.Exact.{exactly_as, exactly_one, one_exactly, ones_exactly}
 use Rattle.extreme_steps.specs.declared.Direction.{Direction}
 use Rattle.extreme_steps.specs.declared.Direction.TheVariants.{Least, Greatest}
-use Rattle.order_guides.specs.Guide.{Plain, beyond_of, past_of, shorter_of, level_of, next_of, apart_of, guide_of, Steady}
+use Rattle.order_guides.specs.Guide.{beyond_of, past_of, shorter_of, level_of, next_of, apart_of, guide_of, Steady}
 use Rattle.order_guides.proofs.Guide.{above_exactly, next_here, next_past, apart_here, apart_past, steady_run}
-
-pub taken_length : (text : List ℕ) (m : ℕ) → m ≤ length text → length (take m text) ≡ m
-taken_length text m h = simp length-take (omega arith)
 
 -- ---- one state
 
-module _ (text : List ℕ) (m q : ℕ) (p : Plain text m) where
-  long : length (take m text) ≡ m
-  long = taken_length text m p.within
+module _ (text : List ℕ) (q : ℕ) where
+  pub next_code : (n c : ℕ) → q < length text → c ≡ get_or text q 0 → Exactly n (λ e. e ≡ c) → n ≡ next_of text q
+  next_code n c h e x = exactly_one x (one_exactly c) ∙ ap (λ (z : ℕ). 2 ^ z) e ∙ sym (next_here text q h)
 
-  pub next_code : (n : ℕ) → q < m → Exactly n (λ e. e ≡ get_or text q 0) → n ≡ next_of (take m text) q
-  next_code n h x = exactly_one x (one_exactly (get_or text q 0))
-      ∙ sym (next_here (take m text) q (let e = long in omega arith) ∙ ap (λ (c : ℕ). 2 ^ c) (get_or-take m text q 0 h))
-
-  pub next_none : (n : ℕ) → m ≤ q → n ≡ 0 → n ≡ next_of (take m text) q
-  next_none n h e = e ∙ sym (next_past (take m text) q (let e = long in omega arith))
+  pub next_none : (n : ℕ) → length text ≤ q → n ≡ 0 → n ≡ next_of text q
+  next_none n h e = e ∙ sym (next_past text q h)
 
   module _ (d : Direction) where
-    pub apart_code : (n : ℕ) → q < m → n ≡ beyond_of d (get_or text q 0) → n ≡ apart_of d (take m text) q
-    apart_code n h e = e ∙ sym (apart_here (take m text) q d (let e = long in omega arith) ∙ ap (beyond_of d) (get_or-take m text q 0 h))
+    pub apart_code : (n c : ℕ) → q < length text → c ≡ get_or text q 0 → n ≡ beyond_of d c → n ≡ apart_of d text q
+    apart_code n c h e x = x ∙ ap (beyond_of d) e ∙ sym (apart_here text q d h)
 
-    pub apart_none : (n : ℕ) → m ≤ q → n ≡ past_of d → n ≡ apart_of d (take m text) q
-    apart_none n h e = e ∙ sym (apart_past (take m text) q d (let e = long in omega arith))
+    pub apart_none : (n : ℕ) → length text ≤ q → n ≡ past_of d → n ≡ apart_of d text q
+    apart_none n h e = e ∙ sym (apart_past text q d h)
 
 -- ---- by direction
 
@@ -71,22 +64,19 @@ tells_shorter {r = r} e t = subst (λ (z : Direction). Tells r (0 < shorter_of z
 
 -- ---- from where on the guide says the same
 
--- what holds from lo on, and just before it, holds from there on
-pub run_more : (P : ℕ → Type 0) (lo hi : ℕ) → 0 < lo → ((q : ℕ) → lo ≤ q → q < hi → P q) → P (lo - 1) → (q : ℕ) → lo - 1 ≤ q → q < hi → P q
-run_more P lo hi z f h q l g = ⊎_elim (λ c. subst P (let e : lo - 1 ≡ q = omega arith in e) h) (λ c. f q c g) (lt_or_le q lo)
+-- before hi - 1 all from lo on is c, and so is it there
+pub run_steady : (text : List ℕ) (d : Direction) (strict : Bool) (lo hi c : ℕ) → 0 < hi → hi ≤ length text → c ≡ get_or text (hi - 1) 0
+    → ((q : ℕ) → lo ≤ q → q < length (take (hi - 1) text) → get_or (take (hi - 1) text) q 0 ≡ c) → Steady (guide_of d strict text) lo hi
+run_steady text d strict lo hi c z w e f = steady_run d strict text lo hi w (λ q h g. ⊎_elim (λ l. at q h l ∙ e) (λ l. ap (λ (i : ℕ). get_or text i 0) (let s : q ≡ hi - 1 = omega arith in s)) (lt_or_le q (hi - 1)))
+  where
+    long : length (take (hi - 1) text) ≡ hi - 1
+    long = simp length-take (omega arith)
 
-module _ (text : List ℕ) (m : ℕ) (p : Plain text m) (d : Direction) (strict : Bool) where
-  pub run_steady : (lo hi c : ℕ) → 0 < hi → hi ≤ m → ((q : ℕ) → lo ≤ q → q < hi → get_or text q 0 ≡ c) → lo < hi → Steady (guide_of d strict (take m text)) lo hi
-  run_steady lo hi c z w f l =
-      let long = taken_length text m p.within in
-      let at : (q : ℕ) → q < hi → get_or (take m text) q 0 ≡ get_or text q 0 = λ q h. get_or-take m text q 0 (omega arith) in
-      steady_run d strict (take m text) lo hi (omega arith)
-      (λ q h g. at q g ∙ f q h g ∙ sym (f (hi - 1) (omega arith) (omega arith)) ∙ sym (at (hi - 1) (omega arith)))
+    at : (q : ℕ) → lo ≤ q → q < hi - 1 → get_or text q 0 ≡ c
+    at q h l = sym (get_or-take (hi - 1) text q 0 l) ∙ f q h (omega (arith, long))
 
 -- ---- one character after another that is the same
 
-pub next_same : (text : List ℕ) (m q : ℕ) → Plain text m → 0 < q → q < m → get_or text q 0 ≡ get_or text (q - 1) 0 → next_of (take m text) (q - 1) ≡ next_of (take m text) q
-next_same text m q p z h e =
-    let long = taken_length text m p.within in
-    next_here (take m text) (q - 1) (omega arith) ∙ ap (λ (c : ℕ). 2 ^ c) (get_or-take m text (q - 1) 0 (omega arith) ∙ sym e ∙ sym (get_or-take m text q 0 h))
-    ∙ sym (next_here (take m text) q (omega arith))
+pub next_same : (text : List ℕ) (q : ℕ) → 0 < q → q < length text → get_or text q 0 ≡ get_or text (q - 1) 0 → next_of text (q - 1) ≡ next_of text q
+next_same text q z h e =
+    next_here text (q - 1) (omega arith) ∙ ap (λ (c : ℕ). 2 ^ c) (sym e) ∙ sym (next_here text q h)

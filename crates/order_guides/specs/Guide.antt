@@ -4,12 +4,6 @@ use Rattle.std.specs.Int.Bits.{bit_and, bit_xor}
 use Rattle.extreme_steps.specs.declared.Direction.{Direction}
 use Rattle.extreme_steps.specs.declared.Direction.TheVariants.{Least, Greatest}
 use Rattle.order_sides.specs.Guide.{Guide}
-use Rattle.bases.specs.Base.{codes}
-
--- The first m bytes are characters.
-pub record Plain (text : List ℕ) (m : ℕ) : Type 0 where
-  pub within : m ≤ length text
-  pub code : (q : ℕ) → q < m → get_or text q 0 < codes
 
 -- All characters below c.
 abbrev pub under : ℕ → ℕ

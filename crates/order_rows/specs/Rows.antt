@@ -2,6 +2,7 @@
 -- X says what the shape allows up to U, G is the guide.
 use Rattle.std.specs.Prelude.{◌≡◌, List, ◌⊎◌, ℕ, ◌+◌, ◌≤◌, ◌<◌}
 use Rattle.bases.specs.Base.{Holds, Meets}
+use Rattle.sets.specs.declared.Set.{Set}
 use Rattle.sets.specs.Set.{Exactly}
 use Rattle.shapes.specs.Shape.{Block}
 use Rattle.walks.specs.Walk.{Path}
@@ -14,7 +15,7 @@ abbrev pub Matches : (ℕ → Block) → (ℕ → ℕ) → ℕ → ℕ → Type 
 Matches X T i q = Path X (λ s. record { base = T s; lower = 1; upper = 1 }) i q 0 0
 
 -- Row q has those positions, up to row n.
-pub record MatchRows (X : ℕ → Block) (T : ℕ → ℕ) (rows : List ℕ) (n : ℕ) : Type 0 where
+pub record MatchRows (X : ℕ → Block) (T : ℕ → ℕ) (rows : List Set) (n : ℕ) : Type 0 where
   pub row : (q : ℕ) → q ≤ n → Exactly (row_in rows q) (λ i. Matches X T i q)
 
 -- No text matches h characters of T, or more.

@@ -3,6 +3,7 @@ use mathlib.Core.Path.{◌≡◌, sym, subst}
 use mathlib.Core.List.{List}
 use Prim.Native.Nat.{ℕ, ◌+◌, ◌-◌, ◌≤◌, ◌<◌}
 use native.Mathlib.Omega.{arith}
+use Rattle.sets.specs.declared.Set.{Set}
 use Rattle.sets.specs.Set.{set_of}
 use Rattle.sets.proofs.Exact.{exactly_at}
 use Rattle.shapes.specs.Shape.{Block}
@@ -19,7 +20,7 @@ joins_pass {g} {e} {r} j {X} {G} {U} {lo} {mid} {hi} a b x y =
     let p = pass_join (set_of g.quit) (set_of g.moved) (set_of g.parted) (set_of e.quit) (set_of e.moved) (set_of e.parted) a b x y j.quit j.moved j.parted in
     subst (λ (c : ℕ). PassAlong X G U lo hi c (set_of r.quit) (set_of r.moved) (set_of r.parted)) (sym j.clear) p
 
-module _ {Z E : ℕ → ℕ} {k : ℕ} {rows : List ℕ} {s : Sorts} where
+module _ {Z E : ℕ → ℕ} {k : ℕ} {rows : List Set} {s : Sorts} where
   pub states_none : {hi : ℕ} (c : ℕ) {g : Gathered} → set_of g.clear ≡ c → set_of g.quit ≡ 0 → set_of g.moved ≡ 0 → set_of g.parted ≡ 0 → States Z E k rows s hi hi c g
   states_none {hi} c e a m p = record { holds = λ X G U z f r o. pass_none (subst (Right X G U hi) (sym e) o) a m p }
 

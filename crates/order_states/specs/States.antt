@@ -1,6 +1,7 @@
 -- The states of an order's second pass, one at a time from the last to the first.
 use Rattle.std.specs.Prelude.{◌≡◌, List, ℕ, ◌+◌, ◌≤◌, ◌<◌}
 use Rattle.std.specs.Int.Bits.{bit_or}
+use Rattle.sets.specs.declared.Set.{Set}
 use Rattle.sets.specs.Set.{set_of, Exactly}
 use Rattle.shapes.specs.Shape.{Block}
 use Rattle.rows.specs.Row.{row_in}
@@ -30,6 +31,6 @@ pub record OneState (Z E : ℕ → ℕ) (k : ℕ) (s : Sorts) (row clear : ℕ) 
   pub holds : (X : ℕ → Block) (G : Guide) (U q : ℕ) → Zones X Z E k → SortedAs X G U q s → Exactly row (λ i. Even X G i q) → Right X G U (q + 1) clear
       → PassOf X G U q (q + 1) r
 
-pub record States (Z E : ℕ → ℕ) (k : ℕ) (rows : List ℕ) (s : Sorts) (lo hi clear : ℕ) (r : Gathered) : Type 0 where
+pub record States (Z E : ℕ → ℕ) (k : ℕ) (rows : List Set) (s : Sorts) (lo hi clear : ℕ) (r : Gathered) : Type 0 where
   pub holds : (X : ℕ → Block) (G : Guide) (U : ℕ) → Zones X Z E k → ((q : ℕ) → lo ≤ q → q < hi → SortedAs X G U q s)
       → ((q : ℕ) → lo ≤ q → q < hi → Exactly (row_in rows q) (λ i. Even X G i q)) → Right X G U hi clear → PassOf X G U lo hi r

@@ -3,15 +3,26 @@
 
 #![tactic(auto)]
 
-ghost use Rattle.std.specs.Prelude.{◌≡◌, ◌≤◌};
+ghost use Rattle.std.specs.Prelude.{◌≡◌, ◌≤◌, length};
 ghost use Rattle.sets.specs.Set.{set_of};
-ghost use Rattle.rows.specs.Row.{row_in, row_count};
+ghost use Rattle.rows.specs.Row.{zone_in, end_in};
 ghost use Rattle.rows.specs.Steps.{InTurn, Together};
 ghost use Rattle.carries.specs.Climb.{Spans};
 ghost use Rattle.order_states.specs.States.{Joins, OneState, States};
 
 use row_steps::Runs;
+use rows::LaidBlock;
 use sets::Set;
+
+// A lent shape laid out: where its runs may end, the spans of those positions, and the position past all its blocks.
+#[derive(Clone, Copy)]
+pub struct LaidShape<'a> {
+    pub lent: &'a [u64],
+    pub layout: &'a [LaidBlock],
+    pub runs: Runs,
+    pub spans: &'a [Set],
+    pub end: usize,
+}
 
 // Positions by what their base is to the guide at a state: it holds the next character, or one that parts from it, or
 // all is read or it does.
@@ -37,7 +48,7 @@ pub fn nothing(clear: Set) -> Gathered
     ensures { (set_of result.clear ≡ set_of clear) × (set_of result.quit ≡ 0) × (set_of result.moved ≡ 0) × (set_of result.parted ≡ 0) }
 {
     Gathered {
-        clear: clear,
+        clear,
         quit: sets::none(),
         moved: sets::none(),
         parted: sets::none(),
@@ -48,9 +59,8 @@ pub fn nothing(clear: Set) -> Gathered
 pub fn joined(later: Gathered, earlier: Gathered) -> Gathered
     ensures { Joins later earlier result }
 {
-    let clear = earlier.clear;
     Gathered {
-        clear: clear,
+        clear: earlier.clear,
         quit: sets::either(later.quit, earlier.quit),
         moved: sets::either(later.moved, earlier.moved),
         parted: sets::either(later.parted, earlier.parted),
@@ -59,26 +69,20 @@ pub fn joined(later: Gathered, earlier: Gathered) -> Gathered
 
 // One state: the row of positions reached, and the positions from which some rest is on the right side at the next
 // state.
-fn one_state(
-    zones: &[u64],
-    ends: &[u64],
-    k: usize,
-    spans: &[u64],
-    runs: Runs,
-    s: Sorts,
-    row: Set,
-    clear: Set,
-) -> Gathered
-    requires k_bound { (k ≤ row_count zones.now) × (k ≤ row_count ends.now) }
-    requires in_turn { InTurn (row_in zones.now) (row_in ends.now) k }
-    requires together { Together (row_in zones.now) (row_in ends.now) k (set_of runs.free) (set_of runs.stops) × Spans (set_of runs.free) spans.now }
-    ensures { OneState (row_in zones.now) (row_in ends.now) k s (set_of row) (set_of clear) result }
+fn one_state(shape: LaidShape, s: Sorts, row: Set, clear: Set) -> Gathered
+    requires in_turn { InTurn (zone_in shape.layout.now) (end_in shape.layout.now) (length shape.layout.now) }
+    requires together { Together (zone_in shape.layout.now) (end_in shape.layout.now) (length shape.layout.now) (set_of shape.runs.free) (set_of shape.runs.stops) × Spans (set_of shape.runs.free) shape.spans.now }
+    ensures { OneState (zone_in shape.entry.layout.now) (end_in shape.entry.layout.now) (length shape.entry.layout.now) s (set_of row) (set_of clear) result }
 {
     let stay = sets::both(sets::down(clear), s.same);
-    let c = row_steps::back_by(zones, ends, k, spans, runs, sets::either(s.over, stay));
-    let rests = c.row;
+    let c = row_steps::back_by(
+        shape.layout,
+        shape.spans,
+        shape.runs,
+        sets::either(s.over, stay),
+    );
     Gathered {
-        clear: rests,
+        clear: c.row,
         quit: sets::both(row, c.quit),
         moved: sets::both(row, stay),
         parted: sets::both(row, s.apart),
@@ -87,40 +91,21 @@ fn one_state(
 
 // The states from lo on, before hi, at all of which positions sort alike.
 pub fn states(
-    zones: &[u64],
-    ends: &[u64],
-    k: usize,
-    spans: &[u64],
-    runs: Runs,
-    rows: &[u64],
+    shape: LaidShape,
+    rows: &[Set],
     s: Sorts,
     lo: usize,
     hi: usize,
     clear: Set,
 ) -> Gathered
-    requires k_bound { (k ≤ row_count zones.now) × (k ≤ row_count ends.now) }
-    requires in_turn { InTurn (row_in zones.now) (row_in ends.now) k }
-    requires together { Together (row_in zones.now) (row_in ends.now) k (set_of runs.free) (set_of runs.stops) × Spans (set_of runs.free) spans.now }
-    requires lo_le_hi { (lo ≤ hi) × (hi ≤ row_count rows.now) }
-    ensures { States (row_in zones.now) (row_in ends.now) k rows.now s lo hi (set_of clear) result }
+    requires in_turn { InTurn (zone_in shape.layout.now) (end_in shape.layout.now) (length shape.layout.now) }
+    requires together { Together (zone_in shape.layout.now) (end_in shape.layout.now) (length shape.layout.now) (set_of shape.runs.free) (set_of shape.runs.stops) × Spans (set_of shape.runs.free) shape.spans.now }
+    requires lo_le_hi { (lo ≤ hi) × (hi ≤ length rows.now) }
+    ensures { States (zone_in shape.entry.layout.now) (end_in shape.entry.layout.now) (length shape.entry.layout.now) rows.now s lo hi (set_of clear) result }
 {
     let mut g = nothing(clear);
-    let mut q = hi;
-    while lo < q {
-        q -= 1;
-        g = joined(
-            g,
-            one_state(
-                zones,
-                ends,
-                k,
-                spans,
-                runs,
-                s,
-                rows::row_at(rows, q),
-                g.clear,
-            ),
-        );
+    for q in (lo..hi).rev() {
+        g = joined(g, one_state(shape, s, rows[q], g.clear));
     }
     g
 }

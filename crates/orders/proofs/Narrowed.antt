@@ -3,15 +3,11 @@
 use mathlib.Core.Path.{◌≡◌, refl, sym, ap, ◌∙◌, subst}
 use mathlib.Core.Bool.{Bool, true, false}
 use mathlib.Core.List.{List}
-use Prim.Native.Nat.{ℕ, ◌≤◌, ◌<◌}
-use native.Mathlib.Omega.{arith}
-use lib.ListN.{length, get_or, take, drop}
-use lib.Seq.{take_at, get_or-take}
-use Rattle.plain.specs.All.{All}
-use Rattle.shapes.specs.Shape.{Block, Small, text_of}
+use Prim.Native.Nat.{ℕ}
+use lib.ListN.{take, drop}
+use lib.Seq.{take_at}
+use Rattle.shapes.specs.Shape.{Block, text_of}
 use Rattle.shapes.specs.Lent.{shape_of}
-use Rattle.plain.proofs.All.{all_at}
-use Rattle.shapes.proofs.Fits.{fits_length}
 use Rattle.texts.specs.Order.{AtMost, Before}
 use Rattle.extreme_steps.specs.declared.Direction.{Direction}
 use Rattle.extreme_steps.specs.declared.Direction.TheVariants.{Least, Greatest}
@@ -21,11 +17,8 @@ use Rattle.hulls.specs.Hull.{None, Hull}
 use Rattle.hulls.proofs.Hull.{same_rule}
 use Rattle.pairs.specs.Narrow.{Narrows, NarrowAnswer}
 use Rattle.order_guides.specs.Sides.{Side}
-use Rattle.order_guides.specs.Guide.{Plain}
 use Rattle.order_guides.proofs.Sides.{side_at_most, at_most_side, side_before, before_side, side_at_least, at_least_side, side_after, after_side}
 use Rattle.order_by_text.specs.Narrowed.{OneNarrowed, One}
-use Rattle.order_by_text.proofs.Answers.{text_small}
-use Rattle.bases.specs.Base.{codes}
 use Rattle.plain.proofs.Plain.{true_false}
 use Rattle.extremes.proofs.Order.{of_least}
 use Rattle.orders.specs.Ordered.{Ordered}
@@ -36,19 +29,6 @@ use Rattle.orders.proofs.Ordered.{at_most_ordered, before_ordered, fitting, orde
 module _ {e : Direction} {x out out' : List ℕ} {n : ℕ} (w : TextWritten e x out out' n) where
   pub text_taken : take n out' ≡ extreme e (shape_of x)
   text_taken = ap (take n) w.bytes ∙ take_at (extreme e (shape_of x)) (drop n out) n (sym w.length_is)
-
-  pub text_short : n ≤ 250
-  text_short = let l = fits_length w.meaning.fits in let s = w.accepted.short in let e = w.length_is in omega arith
-
-  pub text_plain : length out' ≡ 250 → All Small (shape_of x) → Plain out' n
-  text_plain l s = record {
-    within = let h = text_short in omega arith;
-    code = λ q h. subst (λ (z : ℕ). z < codes) (ap (λ (t : List ℕ). get_or t q 0) (sym text_taken) ∙ get_or-take n out' q 0 h)
-        (all_at 0 small q (let d = w.length_is in omega arith));
-  }
-    where
-      small : All (λ c. c < codes) (extreme e (shape_of x))
-      small = subst (All (λ c. c < codes)) w.meaning.fits.joined (text_small s w.meaning.fits.filling)
 
 pub one_by : {d : Direction} {strict : Bool} {T U x out out' : List ℕ} {r : Bool} → T ≡ U → One (λ f. Side d strict (text_of f) T) x out out' r → One (λ f. Side d strict (text_of f) U) x out out' r
 one_by {d} {strict} {x = x} {out} {out'} {r} e o = subst (λ (z : List ℕ). One (λ f. Side d strict (text_of f) z) x out out' r) e o
@@ -109,9 +89,9 @@ module _ {R : List ℕ → List ℕ → Type 0} {strict : Bool} (f : Faced R str
     second_output = b.words;
   }
 
-  pub says_none : {ox oy ox' : List ℕ} {q : Bool} → q ≡ false → One (λ g. Side Least strict (text_of g) M) x ox ox' q → NarrowAnswer R x y ox oy ox' oy false
+  pub says_none : {ox oy ox' : List ℕ} {q : Bool} → q ≡ false → One (λ g. Side Least strict (text_of g) M) x ox ox' q → NarrowAnswer R x y ox oy ox' oy q
   says_none n a = record {
-    both = λ z. true_false (sym z);
+    both = λ z. true_false (sym z ∙ n);
     neither = λ z. record { none = order_none R f.ordered m M least greatest (never_first (a.none n)); first_output = a.kept n; second_output = refl };
   }
 

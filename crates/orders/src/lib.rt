@@ -2,7 +2,7 @@
 
 #![tactic(auto)]
 
-ghost use Rattle.std.specs.Prelude.{◌≡◌, true, false, ◌≤◌, length, replicate};
+ghost use Rattle.std.specs.Prelude.{◌≡◌, true, false, ◌≤◌, length};
 ghost use Rattle.shapes.specs.Shape.{text_of};
 ghost use Rattle.shapes.specs.Lent.{shape_of, Accepted};
 ghost use Rattle.texts.specs.Order.{AtMost, Before};
@@ -12,13 +12,7 @@ ghost use Rattle.order_guides.specs.Sides.{Side};
 ghost use Rattle.order_by_text.specs.Narrowed.{One};
 
 use extreme_steps::Direction;
-
-// No text yet.
-fn blank_text() -> [u8; 250]
-    ensures { result ≡ replicate 250 0 }
-{
-    [0u8; 250]
-}
+use order_guides::Bound;
 
 // Narrows a shape to the side d of the least or the greatest text, as e says, of another shape.
 fn narrow_by(
@@ -34,29 +28,14 @@ fn narrow_by(
     requires x_in_bounds { length x.now ≤ length out.old }
     ensures { One (λ f. Side d strict (text_of f) (extreme e (shape_of other.now))) x.now out.old out.new result }
 {
-    let mut text = blank_text();
+    let mut text = [0; 250];
     let m = extremes::write_extreme(e, other, &mut text);
-    order_by_text::narrow_side(d, strict, x, &text, m, out)
-}
-
-// Narrows x to what is at most (before) the greatest text of y.
-fn narrow_first(strict: bool, x: &[u64], y: &[u64], out: &mut [u64]) -> bool
-    requires accepted { Accepted x.now }
-    requires accepted_2 { Accepted y.now }
-    requires x_in_bounds { length x.now ≤ length out.old }
-    ensures { One (λ f. Side Direction.Least strict (text_of f) (extreme Direction.Greatest (shape_of y.now))) x.now out.old out.new result }
-{
-    narrow_by(Direction::Least, Direction::Greatest, strict, x, y, out)
-}
-
-// Narrows y to what is at least (after) the least text of x.
-fn narrow_second(strict: bool, x: &[u64], y: &[u64], out: &mut [u64]) -> bool
-    requires accepted { Accepted x.now }
-    requires accepted_2 { Accepted y.now }
-    requires y_in_bounds { length y.now ≤ length out.old }
-    ensures { One (λ f. Side Direction.Greatest strict (text_of f) (extreme Direction.Least (shape_of x.now))) y.now out.old out.new result }
-{
-    narrow_by(Direction::Greatest, Direction::Least, strict, y, x, out)
+    let bound = Bound {
+        direction: d,
+        strict,
+        text: &text[..m],
+    };
+    order_by_text::narrow_side(bound, x, out)
 }
 
 // Narrows two shapes under "x at most y", or under "x before y" if strict: x by the greatest text of y, then y by the
@@ -74,8 +53,6 @@ pub fn narrow_order(
     ensures narrow_answer { strict ≡ false → NarrowAnswer AtMost x.now y.now out_x.old out_y.old out_x.new out_y.new result }
     ensures narrow_answer_2 { strict ≡ true → NarrowAnswer Before x.now y.now out_x.old out_y.old out_x.new out_y.new result }
 {
-    if !narrow_first(strict, x, y, out_x) {
-        return false;
-    }
-    narrow_second(strict, x, y, out_y)
+    narrow_by(Direction::Least, Direction::Greatest, strict, x, y, out_x)
+        && narrow_by(Direction::Greatest, Direction::Least, strict, y, x, out_y)
 }

@@ -7,12 +7,12 @@ use native.Mathlib.Omega.{arith}
 use lib.ListN.{length, get_or}
 use Rattle.bases.specs.Base.{Meets}
 use Rattle.plain.specs.Tells.{Tells}
-use Rattle.sets.proofs.Exact.{exactly_at}
 use Rattle.shapes.specs.Shape.{Block, no_block, total, block_count}
 use Rattle.shapes.specs.Lent.{shape_of, block_at}
 use Rattle.shapes.proofs.Lent.{shape_length, shape_at}
 use Rattle.walks.proofs.Fillings.{total_take}
-use Rattle.rows.specs.Row.{row_in}
+use Rattle.rows.specs.declared.LaidBlock.{LaidBlock}
+use Rattle.rows.specs.Row.{zone_in, end_in, slot_in}
 use Rattle.row_lay.specs.Lay.{start, end, Lay}
 use Rattle.row_lay.proofs.Laid.{past_all, total_more}
 use Rattle.pads.specs.Pad.{padded_at}
@@ -39,13 +39,13 @@ module _ (xs : List ℕ) {j : ℕ} (l : j < block_count xs) where
   block_fits = total_take (shape_of xs) j in_shape
 
   -- block j and its rows, as they are read
-  pub block_rows : (pad : ℕ) {zones ends slots : List ℕ} {zone stop slot base : ℕ} {padded : Bool} → Lay (shape_of xs) zones ends slots
-      → zone ≡ row_in zones j → stop ≡ row_in ends j → slot ≡ row_in slots j → base ≡ (block_at xs j).base → Tells padded (Meets base pad)
-      → BlockRows (padded_at pad (shape_of xs)) pad (start (shape_of xs) j) (get_or (shape_of xs) j no_block) zone stop slot padded
-  block_rows pad {padded = padded} lay z e s d t = record {
+  pub block_rows : (pad : ℕ) {layout : List LaidBlock} {base : ℕ} {padded : Bool} → Lay (shape_of xs) layout
+      → base ≡ (block_at xs j).base → Tells padded (Meets base pad)
+      → BlockRows (padded_at pad (shape_of xs)) pad (start (shape_of xs) j) (get_or (shape_of xs) j no_block) (zone_in layout j) (end_in layout j) (slot_in layout j) padded
+  block_rows pad {padded = padded} lay d t = record {
     at = padded_block pad (shape_of xs) j in_shape;
-    zone_is = exactly_at z (lay.zone j in_shape);
-    end_is = exactly_at e (lay.stop j in_shape);
-    slot_is = exactly_at s (lay.slot j in_shape);
+    zone_is = lay.zone j in_shape;
+    end_is = lay.stop j in_shape;
+    slot_is = lay.slot j in_shape;
     told = subst (λ (x : ℕ). Tells padded (Meets x pad)) (d ∙ ap (λ (b : Block). b.base) (sym (shape_at xs j no_block l))) t;
   }

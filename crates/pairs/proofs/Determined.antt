@@ -5,8 +5,10 @@ use Prim.Native.Nat.{ℕ}
 use native.Mathlib.Omega.{arith}
 use lib.ListN.{length, take, drop, length-append}
 use lib.Seq.{take_at, drop_at}
+use Rattle.std.specs.Prelude.{Result, Ok, Err}
+use Rattle.answers.specs.declared.Refusal.{Refusal}
 use Rattle.answers.specs.declared.Narrowed.{Narrowed}
-use Rattle.answers.specs.declared.Narrowed.TheVariants.{Narrow, None as no_pair, Refused}
+use Rattle.answers.specs.declared.Narrowed.TheVariants.{Narrow, None as no_pair}
 use Rattle.answers.proofs.Told.{told_one}
 use Rattle.shapes.specs.Shape.{Block}
 use Rattle.shapes.specs.Lent.{shape_of, words_of}
@@ -42,7 +44,7 @@ pub record Outcome : Type 0 where
   pub work : List ℕ
   pub first : List ℕ
   pub second : List ℕ
-  pub answer : Narrowed
+  pub answer : Result Narrowed Refusal
 
 outcome_path : {p q : Outcome} → p.work ≡ q.work → p.first ≡ q.first → p.second ≡ q.second → p.answer ≡ q.answer → p ≡ q
 outcome_path a b c d = λ i. record { work = a i; first = b i; second = c i; answer = d i }
@@ -51,21 +53,21 @@ module _ (R : List ℕ → List ℕ → Type 0) (xs ys work ox oy : List ℕ) wh
   abbrev pub Permits : Outcome → Type 0
   Permits o = NarrowPromise R xs ys work ox oy o.work o.first o.second o.answer
 
-  go : (a b : Narrowed) (w w' x x' y y' : List ℕ) → NarrowPromise R xs ys work ox oy w x y a → NarrowPromise R xs ys work ox oy w' x' y' b
+  go : (a b : Result Narrowed Refusal) (w w' x x' y y' : List ℕ) → NarrowPromise R xs ys work ox oy w x y a → NarrowPromise R xs ys work ox oy w' x' y' b
       → ◌≡◌ {A = Outcome} (record { work = w; first = x; second = y; answer = a }) (record { work = w'; first = x'; second = y'; answer = b })
-  go Narrow Narrow w w' x x' y y' p q =
+  go (Ok Narrow) (Ok Narrow) w w' x x' y y' p q =
       let o = narrows_one R xs ys ox oy p.1 q.1 in outcome_path (p.0.work_cleared ∙ sym q.0.work_cleared) o.0 o.1 refl
-  go Narrow no_pair w w' x x' y y' p q = absurd (hull_or_none p.1.hull q.1.none)
-  go Narrow (Refused s) w w' x x' y y' p q = absurd (narrow_not q.0 p.0.shapes p.0.room)
-  go no_pair Narrow w w' x x' y y' p q = absurd (hull_or_none q.1.hull p.1.none)
-  go no_pair no_pair w w' x x' y y' p q =
+  go (Ok Narrow) (Ok no_pair) w w' x x' y y' p q = absurd (hull_or_none p.1.hull q.1.none)
+  go (Ok Narrow) (Err s) w w' x x' y y' p q = absurd (narrow_not q.0 p.0.shapes p.0.room)
+  go (Ok no_pair) (Ok Narrow) w w' x x' y y' p q = absurd (hull_or_none q.1.hull p.1.none)
+  go (Ok no_pair) (Ok no_pair) w w' x x' y y' p q =
       outcome_path (p.0.work_cleared ∙ sym q.0.work_cleared) (p.1.first_output ∙ sym q.1.first_output) (p.1.second_output ∙ sym q.1.second_output) refl
-  go no_pair (Refused s) w w' x x' y y' p q = absurd (narrow_not q.0 p.0.shapes p.0.room)
-  go (Refused r) Narrow w w' x x' y y' p q = absurd (narrow_not p.0 q.0.shapes q.0.room)
-  go (Refused r) no_pair w w' x x' y y' p q = absurd (narrow_not p.0 q.0.shapes q.0.room)
-  go (Refused r) (Refused s) w w' x x' y y' p q =
+  go (Ok no_pair) (Err s) w w' x x' y y' p q = absurd (narrow_not q.0 p.0.shapes p.0.room)
+  go (Err r) (Ok Narrow) w w' x x' y y' p q = absurd (narrow_not p.0 q.0.shapes q.0.room)
+  go (Err r) (Ok no_pair) w w' x x' y y' p q = absurd (narrow_not p.0 q.0.shapes q.0.room)
+  go (Err r) (Err s) w w' x x' y y' p q =
       outcome_path (p.1.work_kept ∙ sym q.1.work_kept) (p.1.first_kept ∙ sym q.1.first_kept) (p.1.second_kept ∙ sym q.1.second_kept)
-      (ap Refused (told_one r s (narrow_one p.0 q.0)))
+      (ap Err (told_one r s (narrow_one p.0 q.0)))
 
   pub narrow_determined : (p q : Outcome) → Permits p → Permits q → p ≡ q
   narrow_determined p q h k = go p.answer q.answer p.work q.work p.first q.first p.second q.second h k

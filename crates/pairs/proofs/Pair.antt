@@ -4,16 +4,16 @@ use mathlib.Core.List.{List}
 use Prim.Native.Nat.{ℕ}
 use Rattle.answers.specs.Told.{Told}
 use Rattle.answers.specs.Turns.{here, later}
-use Rattle.answers.specs.declared.Checked.{Checked}
-use Rattle.answers.specs.declared.Checked.TheVariants.{Sound, Refused}
+use Rattle.std.specs.Prelude.{Result, Ok, Err}
+use Rattle.answers.specs.declared.Refusal.{Refusal}
 use Rattle.answers.proofs.Turns.{OneOf, need_one, in_turn_one}
 use Rattle.shapes.specs.Lent.{Accepted, ShapeChecked}
 use Rattle.shapes.proofs.Refused.{of_shape_lem, Other, shape_other}
 use Rattle.pairs.specs.Pair.{PairAccepted, pair_turns, PairRefused, of_pair, PairChecked, Room, narrow_turns, NarrowRefused, of_narrowing}
 
-pub second_checked : (xs ys : List ℕ) (r : Checked) → Accepted xs → ShapeChecked 2 ys r → PairChecked xs ys r
-second_checked xs ys Sound a b = record { first = a; second = b }
-second_checked xs ys (Refused r) a b = later a (here b)
+pub second_checked : (xs ys : List ℕ) (r : Result Unit Refusal) → Accepted xs → ShapeChecked 2 ys r → PairChecked xs ys r
+second_checked xs ys (Ok _) a b = record { first = a; second = b }
+second_checked xs ys (Err r) a b = later a (here b)
 
 pub of_pair_lem : {xs ys : List ℕ} → OneOf (of_pair xs ys)
 of_pair_lem {xs} {ys} = in_turn_one (pair_turns xs ys) (of_shape_lem, (of_shape_lem, tt)) (λ a. (a.first, (a.second, tt)))

@@ -1,9 +1,10 @@
 -- Document 01, "Narrowing": what narrowing under the relation R promises. Lent: two shapes xs and ys, work, two outputs
 -- ox and oy; with ' they are as handed back.
-use Rattle.std.specs.Prelude.{◌≡◌, Bool, true, false, List, ◌++◌, ℕ, length, drop, replicate}
+use Rattle.std.specs.Prelude.{◌≡◌, Bool, true, false, List, ◌++◌, ℕ, length, drop, replicate, Result, Ok, Err}
 use Rattle.answers.specs.Told.{told}
+use Rattle.answers.specs.declared.Refusal.{Refusal}
 use Rattle.answers.specs.declared.Narrowed.{Narrowed}
-use Rattle.answers.specs.declared.Narrowed.TheVariants.{Narrow, None as no_pair, Refused}
+use Rattle.answers.specs.declared.Narrowed.TheVariants.{Narrow, None as no_pair}
 use Rattle.shapes.specs.Shape.{Block}
 use Rattle.shapes.specs.Lent.{shape_of, words_of}
 use Rattle.hulls.specs.Hull.{Pairs, None, Hull}
@@ -47,8 +48,8 @@ pub record Untouched (xs ys work ox oy work' ox' oy' : List ℕ) : Type 0 where
   pub first_kept : ox' ≡ ox
   pub second_kept : oy' ≡ oy
 
-abbrev pub NarrowPromise : (List ℕ → List ℕ → Type 0) → List ℕ → List ℕ → List ℕ → List ℕ → List ℕ → List ℕ → List ℕ → List ℕ → Narrowed → Type 0
-NarrowPromise R xs ys work ox oy work' ox' oy' Narrow = Accepts xs ys work ox oy work' × Narrows R xs ys ox oy ox' oy'
-NarrowPromise R xs ys work ox oy work' ox' oy' no_pair = Accepts xs ys work ox oy work' × NoPair R xs ys ox oy ox' oy'
-NarrowPromise R xs ys work ox oy work' ox' oy' (Refused r) =
+abbrev pub NarrowPromise : (List ℕ → List ℕ → Type 0) → List ℕ → List ℕ → List ℕ → List ℕ → List ℕ → List ℕ → List ℕ → List ℕ → Result Narrowed Refusal → Type 0
+NarrowPromise R xs ys work ox oy work' ox' oy' (Ok Narrow) = Accepts xs ys work ox oy work' × Narrows R xs ys ox oy ox' oy'
+NarrowPromise R xs ys work ox oy work' ox' oy' (Ok no_pair) = Accepts xs ys work ox oy work' × NoPair R xs ys ox oy ox' oy'
+NarrowPromise R xs ys work ox oy work' ox' oy' (Err r) =
     NarrowRefused xs ys (length work) (length ox) (length oy) (told r) × Untouched xs ys work ox oy work' ox' oy'

@@ -1,9 +1,9 @@
 -- Document 01, "Numbers given back": the refusals of a pair, in their order: those of the first shape; those of the
 -- second; 4; 5.
-use Rattle.std.specs.Prelude.{List, [], ◌∷◌, ℕ, ◌≤◌, length}
+use Rattle.std.specs.Prelude.{List, [], ◌∷◌, ℕ, ◌≤◌, length, Result}
 use Rattle.answers.specs.Told.{Told, tell}
 use Rattle.answers.specs.Turns.{Turn, FirstDue, in_turn, TurnChecked, need}
-use Rattle.answers.specs.declared.Checked.{Checked}
+use Rattle.answers.specs.declared.Refusal.{Refusal}
 use Rattle.shapes.specs.Lent.{Accepted, of_shape}
 
 -- both are shapes
@@ -21,7 +21,7 @@ PairRefused xs ys = FirstDue (pair_turns xs ys)
 abbrev pub of_pair : List ℕ → List ℕ → Turn
 of_pair xs ys = in_turn (PairAccepted xs ys) (pair_turns xs ys)
 
-abbrev pub PairChecked : List ℕ → List ℕ → Checked → Type 0
+abbrev pub PairChecked : List ℕ → List ℕ → Result Unit Refusal → Type 0
 PairChecked xs ys = TurnChecked (of_pair xs ys)
 
 -- the room that narrowing wants: w bytes of work, a and b numbers of output
@@ -41,5 +41,5 @@ NarrowRefused xs ys w a b = FirstDue (narrow_turns xs ys w a b)
 abbrev pub of_narrowing : List ℕ → List ℕ → ℕ → ℕ → ℕ → Turn
 of_narrowing xs ys w a b = in_turn (PairAccepted xs ys × Room xs ys w a b) (narrow_turns xs ys w a b)
 
-abbrev pub NarrowChecked : List ℕ → List ℕ → ℕ → ℕ → ℕ → Checked → Type 0
+abbrev pub NarrowChecked : List ℕ → List ℕ → ℕ → ℕ → ℕ → Result Unit Refusal → Type 0
 NarrowChecked xs ys w a b = TurnChecked (of_narrowing xs ys w a b)

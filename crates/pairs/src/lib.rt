@@ -6,16 +6,14 @@ ghost use Rattle.std.specs.Prelude.{◌≤◌, length};
 ghost use Rattle.pairs.specs.Narrow.{Cleared};
 ghost use Rattle.pairs.specs.Pair.{PairChecked};
 
-use answers::Checked;
+use answers::Refusal;
 
 // Those of the first shape, then of the second.
-pub fn check_pair(x: &[u64], y: &[u64]) -> Checked
+pub fn check_pair(x: &[u64], y: &[u64]) -> Result<(), Refusal>
     ensures { PairChecked x.now y.now result }
 {
-    match shape_checks::check_lent(x, 1) {
-        Checked::Refused(r) => Checked::Refused(r),
-        Checked::Sound => shape_checks::check_lent(y, 2),
-    }
+    shape_checks::check_lent(x, 1)?;
+    shape_checks::check_lent(y, 2)
 }
 
 // Sets the work buffer to 0, as far as a call may use it.
@@ -23,9 +21,5 @@ pub fn clear(work: &mut [u8])
     requires { 63001 ≤ length work.old }
     ensures { Cleared work.old work.new }
 {
-    let mut k = 0;
-    while k < 63001 {
-        work[k] = 0;
-        k += 1;
-    }
+    work[..63001].fill(0);
 }

@@ -9,6 +9,7 @@ use lib.ListN.{take}
 use Rattle.bases.specs.Base.{Holds, Empty, Least, Greatest}
 use Rattle.plain.proofs.Plain.{lt_or_le}
 use Rattle.sets.specs.Set.{Exactly}
+use Rattle.sets.specs.declared.Set.{Set}
 use Rattle.sets.proofs.Exact.{exactly_as, both_exactly}
 use Rattle.shapes.specs.Shape.{Block, total}
 use Rattle.shapes.specs.Lent.{shape_of, block_at, Put}
@@ -85,7 +86,7 @@ module _ {quit moved p ends : ℕ} {b : Block} (x : Exactly ends (λ q. Holds qu
 
 -- ---- the blocks of a shape
 
-module _ {chars : List ℕ} {quit moved : ℕ} {xs : List ℕ} where
+module _ {chars : List Set} {quit moved : ℕ} {xs : List ℕ} where
   pub told_none : (o : List ℕ) → ToldTo chars quit moved xs 0 o o
   told_none o = record { long = refl; blocks = λ i h. absurd (omega arith); kept = λ k h. refl }
 

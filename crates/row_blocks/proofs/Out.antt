@@ -7,9 +7,10 @@ use lib.ListN.{length, get_or, take, drop}
 use Rattle.shapes.specs.Shape.{Block, no_block, block_size, block_count}
 use Rattle.shapes.specs.Lent.{block_at, shape_of, words_of}
 use Rattle.shapes.proofs.Front.{front_size, front_at, front_out}
+use Rattle.sets.specs.declared.Set.{Set}
 use Rattle.row_blocks.specs.Blocks.{ToldTo}
 
-module _ (xs o o' : List ℕ) (whole : length xs % block_size ≡ 0) (room : length xs ≤ length o) {chars : List ℕ} {quit moved : ℕ}
+module _ (xs o o' : List ℕ) (whole : length xs % block_size ≡ 0) (room : length xs ≤ length o) {chars : List Set} {quit moved : ℕ}
     (s : ToldTo chars quit moved xs (block_count xs) o o') where
   abbrev pub narrowed : List Block
   narrowed = shape_of (take (length xs) o')

@@ -5,6 +5,7 @@ use Rattle.std.specs.Int.Bits.{bit_and}
 use Rattle.bases.specs.Base.{Holds}
 use Rattle.shapes.specs.Shape.{Block, total, block_size}
 use Rattle.shapes.specs.Lent.{shape_of, block_at}
+use Rattle.sets.specs.declared.Set.{Set}
 use Rattle.rows.specs.Row.{row_in}
 
 -- The run can have length n: it ends early there, or takes all that the block allows; or the block allows none.
@@ -31,7 +32,7 @@ SomeLength quit moved xs n = (i : ℕ) → i < n → AnyLength quit moved (total
 
 -- The first n blocks of the output are what is told of them, with row i of `chars` for block i; the numbers past block
 -- n are as they were.
-pub record ToldTo (chars : List ℕ) (quit moved : ℕ) (xs : List ℕ) (n : ℕ) (o o' : List ℕ) : Type 0 where
+pub record ToldTo (chars : List Set) (quit moved : ℕ) (xs : List ℕ) (n : ℕ) (o o' : List ℕ) : Type 0 where
   pub long : length o' ≡ length o
   pub blocks : (i : ℕ) → i < n → ToldBy (row_in chars i) quit moved (total (take i (shape_of xs))) (block_at xs i) (block_at o' i)
   pub kept : (k : ℕ) → n * block_size ≤ k → get_or o' k 0 ≡ get_or o k 0

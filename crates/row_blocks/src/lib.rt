@@ -6,7 +6,6 @@ ghost use Rattle.std.specs.Prelude.{◌+◌, ◌/◌, ◌≤◌, length};
 ghost use Rattle.shapes.specs.Shape.{Small, block_count};
 ghost use Rattle.sets.specs.Set.{set_of};
 ghost use Rattle.shapes.specs.Lent.{Whole, meant};
-ghost use Rattle.rows.specs.Row.{row_count};
 ghost use Rattle.row_blocks.specs.Blocks.{AnyLength, SomeLength, ToldBy, ToldTo};
 
 use sets::Set;
@@ -26,41 +25,37 @@ fn told(b: Block, p: usize, chars: Set, quit: Set, moved: Set) -> Block
     let early = sets::both(quit, sets::between(p, e));
     if sets::is_empty(early) {
         return Block {
-            base: base,
+            base,
             lower: b.upper,
-            upper: b.upper,
+            ..b
         };
     }
     let least = (sets::first(early) - p) as u64;
     if sets::has(moved, e - 1) {
         return Block {
-            base: base,
+            base,
             lower: least,
-            upper: b.upper,
+            ..b
         };
     }
     Block {
-        base: base,
+        base,
         lower: least,
         upper: (sets::last(early) - p) as u64,
     }
 }
 
 // Writes each block of a shape as it is told.
-pub fn narrow_blocks(x: &[u64], chars: &[u64], quit: Set, moved: Set, out: &mut [u64])
+pub fn narrow_blocks(x: &[u64], chars: &[Set], quit: Set, moved: Set, out: &mut [u64])
     requires whole { Whole x.now }
-    requires x_bound { (block_count x.now ≤ row_count chars.now) × (length x.now ≤ length out.old) }
+    requires x_bound { (block_count x.now ≤ length chars.now) × (length x.now ≤ length out.old) }
     requires some_length { SomeLength (set_of quit) (set_of moved) x.now (block_count x.now) }
     ensures { ToldTo chars.now (set_of quit) (set_of moved) x.now (block_count x.now) out.old out.new }
 {
-    let n = x.len() / shapes::SIZE;
     let mut p = 0;
-    let mut i = 0;
-    while i < n {
+    for i in 0..x.len() / shapes::SIZE {
         let b = shapes::block_at(x, i);
-        let h = told(b, p, rows::row_at(chars, i), quit, moved);
-        shapes::put_block(out, i, h);
+        shapes::put_block(out, i, told(b, p, chars[i], quit, moved));
         p += b.upper as usize;
-        i += 1;
     }
 }

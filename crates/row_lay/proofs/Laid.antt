@@ -1,16 +1,16 @@
 -- A shape laid out in rows: the rows are made block by block, and they say what its slots say. Assumes nothing.
 use mathlib.Core.Path.{◌≡◌, refl, sym, ap, ◌∙◌, subst}
 use mathlib.Core.List.{List, [], ◌∷◌}
-use mathlib.Core.Logic.{⊎_elim}
+use mathlib.Core.Logic.{⊎_elim, ◌≢◌}
 use Prim.Native.Nat.{ℕ, zero, suc, ◌+◌, ◌-◌, ◌≤◌, ◌<◌}
 use native.Mathlib.Numerals.{add-one}
 use native.Mathlib.Omega.{arith}
-use lib.ListN.{length, get_or, take}
-use lib.Seq.{take_all}
+use lib.ListN.{length, get_or, set, take}
+use lib.Seq.{take_all, get_or-set_same, get_or-set_other}
 use Rattle.bases.specs.Base.{Holds, Empty, Meets}
 use Rattle.bases.proofs.Laws.{none_in_zero}
 use Rattle.plain.proofs.Plain.{lt_or_le}
-use Rattle.sets.specs.Set.{Exactly}
+use Rattle.sets.specs.Set.{set_of, Exactly}
 use Rattle.sets.proofs.Exact.{exactly_as}
 use Rattle.shapes.specs.Shape.{Block, no_block, total, block_count}
 use Rattle.shapes.specs.Lent.{shape_of, block_at}
@@ -18,9 +18,9 @@ use Rattle.shapes.proofs.Lent.{shape_length, shape_at}
 use Rattle.walks.specs.Walk.{lessen, past, slot_at}
 use Rattle.walks.proofs.Laid.{slots, slot_after}
 use Rattle.walks.proofs.Fillings.{total_take, has_at, start_at}
-use Rattle.rows.specs.Row.{row_in, PutRow}
+use Rattle.rows.specs.declared.LaidBlock.{LaidBlock}
+use Rattle.rows.specs.Row.{no_laid, zone_in, end_in, slot_in}
 use Rattle.rows.specs.Steps.{InTurn, MeetsOne}
-use Rattle.rows.proofs.Rows.{rows_more}
 use Rattle.row_lay.specs.Lay.{start, end, LayTo, Lay}
 
 -- ---- the uppers of the blocks before one
@@ -66,25 +66,33 @@ start_after (b ∷ s) (suc i) (suc j) l h = let r = start_after s i j (omega ari
 
 -- ---- the rows, block by block
 
-pub lay_none : (S : List Block) (z e s : List ℕ) → LayTo S 0 z e s
-lay_none S z e s = record { zone = λ j h. absurd (omega arith); stop = λ j h. absurd (omega arith); slot = λ j h. absurd (omega arith) }
+pub lay_none : (S : List Block) (w : List LaidBlock) → LayTo S 0 w
+lay_none S w = record { zone = λ j h. absurd (omega arith); stop = λ j h. absurd (omega arith); slot = λ j h. absurd (omega arith) }
 
-pub lay_more : {S : List Block} {j p zr er sr : ℕ} {b : Block} {z z' e e' s s' : List ℕ} → p ≡ start S j → b ≡ get_or S j no_block → LayTo S j z e s
-    → PutRow z j zr z' → Exactly zr (λ q. (p + b.lower ≤ q) × (q < p + b.upper)) → PutRow e j er e' → Exactly er (λ q. q ≡ p + b.upper)
-    → PutRow s j sr s' → Exactly sr (λ q. (p ≤ q) × (q < p + b.upper)) → LayTo S (j + 1) z' e' s'
-lay_more {S} {j} {p} {b = b} at d l pz xz pe xe ps xs =
+-- what holds of each block below j, and of the block that is written there, holds of each below j + 1
+laid_more : (P : ℕ → LaidBlock → Type 0) (w : List LaidBlock) (j : ℕ) (b : LaidBlock) → j < length w → ((i : ℕ) → i < j → P i (get_or w i no_laid)) → P j b
+    → (i : ℕ) → i < j + 1 → P i (get_or (set w j b) i no_laid)
+laid_more P w j b l f h i s = ⊎_elim
+    (λ c. let ne : i ≢ j = omega arith in subst (P i) (sym (get_or-set_other w j i b no_laid ne)) (f i c))
+    (λ c. let same : i ≡ j = omega arith in subst (λ (x : ℕ). P x (get_or (set w j b) x no_laid)) (sym same) (subst (P j) (sym (get_or-set_same w j b no_laid l)) h))
+    (lt_or_le i j)
+
+pub lay_more : {S : List Block} {j p : ℕ} {b : Block} (w : List LaidBlock) (r : LaidBlock) → j < length w → p ≡ start S j → b ≡ get_or S j no_block → LayTo S j w
+    → Exactly (set_of r.zone) (λ q. (p + b.lower ≤ q) × (q < p + b.upper)) → Exactly (set_of r.end) (λ q. q ≡ p + b.upper)
+    → Exactly (set_of r.slot) (λ q. (p ≤ q) × (q < p + b.upper)) → LayTo S (j + 1) (set w j r)
+lay_more {S} {j} {p} {b} w r h at d l z e s =
     let low : b.lower ≡ (get_or S j no_block).lower = ap (λ (c : Block). c.lower) d in
     let up : b.upper ≡ (get_or S j no_block).upper = ap (λ (c : Block). c.upper) d in
     record {
-      zone = rows_more (λ i r. Exactly r (λ q. (start S i + (get_or S i no_block).lower ≤ q) × (q < end S i))) pz l.zone
-          (exactly_as (λ q h. (omega arith, omega arith)) (λ q h. (omega arith, omega arith)) xz);
-      stop = rows_more (λ i r. Exactly r (λ q. q ≡ end S i)) pe l.stop (exactly_as (λ q h. omega arith) (λ q h. omega arith) xe);
-      slot = rows_more (λ i r. Exactly r (λ q. (start S i ≤ q) × (q < end S i))) ps l.slot
-          (exactly_as (λ q h. (omega arith, omega arith)) (λ q h. (omega arith, omega arith)) xs);
+      zone = laid_more (λ i x. Exactly (set_of x.zone) (λ q. (start S i + (get_or S i no_block).lower ≤ q) × (q < end S i))) w j r h l.zone
+          (exactly_as (λ q g. (omega arith, omega arith)) (λ q g. (omega arith, omega arith)) z);
+      stop = laid_more (λ i x. Exactly (set_of x.end) (λ q. q ≡ end S i)) w j r h l.stop (exactly_as (λ q g. omega arith) (λ q g. omega arith) e);
+      slot = laid_more (λ i x. Exactly (set_of x.slot) (λ q. (start S i ≤ q) × (q < end S i))) w j r h l.slot
+          (exactly_as (λ q g. (omega arith, omega arith)) (λ q g. (omega arith, omega arith)) s);
     }
 
-pub lay_to : {S : List Block} {n : ℕ} {z e s : List ℕ} → n ≡ length S → LayTo S n z e s → Lay S z e s
-lay_to {S} {z = z} {e = e} {s = s} d l = subst (λ (x : ℕ). LayTo S x z e s) d l
+pub lay_to : {S : List Block} {n : ℕ} {w : List LaidBlock} → n ≡ length S → LayTo S n w → Lay S w
+lay_to {S} {w = w} d l = subst (λ (x : ℕ). LayTo S x w) d l
 
 -- ---- where a position is
 
@@ -131,9 +139,9 @@ slot_within S {q} {j} w =
 
 -- ---- the rows and the slots
 
-module _ {S : List Block} {z e s : List ℕ} (l : Lay S z e s) where
+module _ {S : List Block} {layout : List LaidBlock} (l : Lay S layout) where
   -- zones run up to their ends, and lie past the ends of the blocks before
-  pub lay_in_turn : InTurn (row_in z) (row_in e) (length S)
+  pub lay_in_turn : InTurn (zone_in layout) (end_in layout) (length S)
   lay_in_turn = record {
     first = λ j. start S j + (get_or S j no_block).lower;
     end = end S;
@@ -142,7 +150,7 @@ module _ {S : List Block} {z e s : List ℕ} (l : Lay S z e s) where
     order = λ i j o h. let a = start_after S i j o h in (omega arith, end_order S i j (omega arith) h);
   }
 
-  zone_within : (j q : ℕ) → j < length S → Holds (row_in z j) q → Within S q j
+  zone_within : (j q : ℕ) → j < length S → Holds (zone_in layout j) q → Within S q j
   zone_within j q h g = let a = (l.zone j h).so q g in record { below = h; from = omega arith; before = omega arith }
 
   -- where the run of a slot ends
@@ -153,11 +161,11 @@ module _ {S : List Block} {z e s : List ℕ} (l : Lay S z e s) where
       let u : (slot_at S q).upper ≡ (get_or S j no_block).upper - (q - start S j) = ap (λ (b : Block). b.upper) (slot_within S w) in
       omega arith
 
-  pub stop_is : (j q x : ℕ) → j < length S → Holds (row_in z j) q → Holds (row_in e j) x → x ≡ q + (slot_at S q).upper
+  pub stop_is : (j q x : ℕ) → j < length S → Holds (zone_in layout j) q → Holds (end_in layout j) x → x ≡ q + (slot_at S q).upper
   stop_is j q x h g k = (l.stop j h).so x k ∙ sym (run_end (zone_within j q h g))
 
   -- from a zone the run may end, and is then at its block's end
-  pub zone_run : (j q : ℕ) → j < length S → Holds (row_in z j) q → ((slot_at S q).lower ≡ 0) × Holds (row_in e j) (q + (slot_at S q).upper)
+  pub zone_run : (j q : ℕ) → j < length S → Holds (zone_in layout j) q → ((slot_at S q).lower ≡ 0) × Holds (end_in layout j) (q + (slot_at S q).upper)
   zone_run j q h g =
       let w = zone_within j q h g in
       let a = (l.zone j h).so q g in
@@ -165,7 +173,7 @@ module _ {S : List Block} {z e s : List ℕ} (l : Lay S z e s) where
       (omega arith, (l.stop j h).has (q + (slot_at S q).upper) (run_end w))
 
   -- a run that may end is in a zone
-  pub run_zone : (q : ℕ) → (slot_at S q).lower ≡ 0 → (j : ℕ) × (j < length S) × Holds (row_in z j) q × Holds (row_in e j) (q + (slot_at S q).upper)
+  pub run_zone : (q : ℕ) → (slot_at S q).lower ≡ 0 → (j : ℕ) × (j < length S) × Holds (zone_in layout j) q × Holds (end_in layout j) (q + (slot_at S q).upper)
   run_zone q d = ⊎_elim
       (λ h.
       let b = block_of S q h in
@@ -179,27 +187,27 @@ module _ {S : List Block} {z e s : List ℕ} (l : Lay S z e s) where
       (lt_or_le q (total S))
 
   -- the slots of a row have its block's base
-  pub slot_base : (j q : ℕ) → j < length S → Holds (row_in s j) q → (slot_at S q).base ≡ (get_or S j no_block).base
+  pub slot_base : (j q : ℕ) → j < length S → Holds (slot_in layout j) q → (slot_at S q).base ≡ (get_or S j no_block).base
   slot_base j q h g =
       let a = (l.slot j h).so q g in
       ap (λ (b : Block). b.base) (slot_within S (record { below = h; from = a.0; before = a.1 }))
 
   -- where a character may come there is a slot
-  pub in_slot : (q c : ℕ) → Holds (slot_at S q).base c → (j : ℕ) × (j < length S) × Holds (row_in s j) q
+  pub in_slot : (q c : ℕ) → Holds (slot_at S q).base c → (j : ℕ) × (j < length S) × Holds (slot_in layout j) q
   unfolding Empty
   in_slot q c g = ⊎_elim
       (λ h. let b = block_of S q h in let w = b.1 in (b.0, w.below, (l.slot b.0 w.below).has q (w.from, w.before)))
       (λ h. absurd (none_in_zero c (subst (λ (b : Block). Holds b.base c) (past_all S q h) g)))
       (lt_or_le q (total S))
 
-  pub matched_meets : (base q : ℕ) → MeetsOne (λ j. (get_or S j no_block).base) (row_in s) (length S) base q → Meets base (slot_at S q).base
+  pub matched_meets : (base q : ℕ) → MeetsOne (λ j. (get_or S j no_block).base) (slot_in layout) (length S) base q → Meets base (slot_at S q).base
   matched_meets base q m = record {
     shared = m.meets.shared;
     first = m.meets.first;
     second = subst (λ (x : ℕ). Holds x m.meets.shared) (sym (slot_base m.number q m.below m.held)) m.meets.second;
   }
 
-  pub meets_matched : (base q : ℕ) → Meets base (slot_at S q).base → MeetsOne (λ j. (get_or S j no_block).base) (row_in s) (length S) base q
+  pub meets_matched : (base q : ℕ) → Meets base (slot_at S q).base → MeetsOne (λ j. (get_or S j no_block).base) (slot_in layout) (length S) base q
   meets_matched base q m =
       let i = in_slot q m.shared m.second in
       record {

@@ -6,7 +6,6 @@ use native.Mathlib.Omega.{arith}
 use lib.Bits.{bit_and, bit_or}
 use Rattle.bases.specs.Base.{Holds, Meets}
 use Rattle.plain.proofs.Plain.{lt_or_le}
-use Rattle.bases.proofs.Sets as bits
 use Rattle.sets.specs.Set.{Exactly}
 use Rattle.sets.proofs.Exact.{exactly_as, none_exactly, both_exactly, either_exactly, up_exactly}
 use Rattle.shapes.specs.Shape.{Block}

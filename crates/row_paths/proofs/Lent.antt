@@ -11,7 +11,8 @@ use Rattle.shapes.specs.Shape.{Block, no_block, total, block_count}
 use Rattle.shapes.specs.Lent.{shape_of, block_at}
 use Rattle.shapes.proofs.Lent.{shape_length, shape_at}
 use Rattle.walks.specs.Walk.{slot_at}
-use Rattle.rows.specs.Row.{row_in}
+use Rattle.rows.specs.declared.LaidBlock.{LaidBlock}
+use Rattle.rows.specs.Row.{zone_in, end_in, slot_in}
 use Rattle.rows.specs.Steps.{InTurn, MeetsOne}
 use Rattle.row_lay.specs.Lay.{Lay}
 use Rattle.row_lay.proofs.Laid.{lay_in_turn, matched_meets, meets_matched}
@@ -33,26 +34,26 @@ matched_as f e m = record {
 base_at : (y : List ℕ) (j : ℕ) → j < block_count y → (block_at y j).base ≡ (get_or (shape_of y) j no_block).base
 base_at y j h = ap (λ (b : Block). b.base) (sym (shape_at y j no_block h))
 
-module _ (y : List ℕ) {z e s : List ℕ} (l : Lay (shape_of y) z e s) where
-  mine_of : {base n : ℕ} → Exactly n (MeetsOne (λ j. (block_at y j).base) (row_in s) (block_count y) base) → Exactly n (λ q. Meets base (slot_at (shape_of y) q).base)
+module _ (y : List ℕ) {layout : List LaidBlock} (l : Lay (shape_of y) layout) where
+  mine_of : {base n : ℕ} → Exactly n (MeetsOne (λ j. (block_at y j).base) (slot_in layout) (block_count y) base) → Exactly n (λ q. Meets base (slot_at (shape_of y) q).base)
   mine_of {base} x = exactly_as
       (λ q m. matched_meets l base q (matched_as (base_at y) (sym (shape_length y)) m))
       (λ q m. matched_as (λ j h. sym (base_at y j (let c = shape_length y in omega arith))) (shape_length y) (meets_matched l base q m)) x
 
-  pub in_turn_of : InTurn (row_in z) (row_in e) (block_count y)
-  in_turn_of = subst (InTurn (row_in z) (row_in e)) (shape_length y) (lay_in_turn l)
+  pub in_turn_of : InTurn (zone_in layout) (end_in layout) (block_count y)
+  in_turn_of = subst (InTurn (zone_in layout) (end_in layout)) (shape_length y) (lay_in_turn l)
 
-  zones_in : total (shape_of y) ≤ 250 → Zones (slot_at (shape_of y)) (row_in z) (row_in e) (block_count y)
-  zones_in h = subst (Zones (slot_at (shape_of y)) (row_in z) (row_in e)) (shape_length y) (zones_of l h)
+  zones_in : total (shape_of y) ≤ 250 → Zones (slot_at (shape_of y)) (zone_in layout) (end_in layout) (block_count y)
+  zones_in h = subst (Zones (slot_at (shape_of y)) (zone_in layout) (end_in layout)) (shape_length y) (zones_of l h)
 
 -- the same, where k is the number of blocks
-pub mine_at : (y : List ℕ) {k base n : ℕ} {z e s : List ℕ} → k ≡ block_count y → Lay (shape_of y) z e s → Exactly n (MeetsOne (λ j. (block_at y j).base) (row_in s) k base) → Exactly n (λ q. Meets base (slot_at (shape_of y) q).base)
-mine_at y {base = base} {n = n} {s = s} d l x = mine_of y l (subst (λ (j : ℕ). Exactly n (MeetsOne (λ i. (block_at y i).base) (row_in s) j base)) d x)
+pub mine_at : (y : List ℕ) {k base n : ℕ} {layout : List LaidBlock} → k ≡ block_count y → Lay (shape_of y) layout → Exactly n (MeetsOne (λ j. (block_at y j).base) (slot_in layout) k base) → Exactly n (λ q. Meets base (slot_at (shape_of y) q).base)
+mine_at y {base = base} {n = n} {layout = layout} d l x = mine_of y l (subst (λ (j : ℕ). Exactly n (MeetsOne (λ i. (block_at y i).base) (slot_in layout) j base)) d x)
 
-pub zones_at : (y : List ℕ) {k : ℕ} {z e s : List ℕ} → k ≡ block_count y → Lay (shape_of y) z e s → total (shape_of y) ≤ 250 → Zones (slot_at (shape_of y)) (row_in z) (row_in e) k
-zones_at y {z = z} {e = e} d l h = subst (Zones (slot_at (shape_of y)) (row_in z) (row_in e)) (sym d) (zones_in y l h)
+pub zones_at : (y : List ℕ) {k : ℕ} {layout : List LaidBlock} → k ≡ block_count y → Lay (shape_of y) layout → total (shape_of y) ≤ 250 → Zones (slot_at (shape_of y)) (zone_in layout) (end_in layout) k
+zones_at y {layout = layout} d l h = subst (Zones (slot_at (shape_of y)) (zone_in layout) (end_in layout)) (sym d) (zones_in y l h)
 
-pub slot_rows_at : (y : List ℕ) {k : ℕ} {z e s : List ℕ} → k ≡ block_count y → Lay (shape_of y) z e s → SlotRows (slot_at (shape_of y)) (λ j. (block_at y j).base) (row_in s) k
+pub slot_rows_at : (y : List ℕ) {k : ℕ} {layout : List LaidBlock} → k ≡ block_count y → Lay (shape_of y) layout → SlotRows (slot_at (shape_of y)) (λ j. (block_at y j).base) (slot_in layout) k
 slot_rows_at y d l = let r = slot_rows l in let n = shape_length y in record {
   base = λ j q h g. r.base j q (omega arith) g ∙ sym (base_at y j (omega arith));
   find = λ q c h. let f = r.find q c h in let b = f.1 in (f.0, omega arith, f.2);
@@ -64,11 +65,11 @@ block_at_lem x i p {b} h e d = subst (λ (q : ℕ). BlockIn (slot_at (shape_of x
 
 -- ---- the same with padding behind the blocks
 
-module _ (pad : ℕ) (y : List ℕ) {k : ℕ} (d : k ≡ block_count y) {z e s : List ℕ} (l : Lay (shape_of y) z e s) (short : total (shape_of y) ≤ 250) where
-  pub padded_zones_at : Zones (padded_at pad (shape_of y)) (row_in z) (row_in e) k
+module _ (pad : ℕ) (y : List ℕ) {k : ℕ} (d : k ≡ block_count y) {layout : List LaidBlock} (l : Lay (shape_of y) layout) (short : total (shape_of y) ≤ 250) where
+  pub padded_zones_at : Zones (padded_at pad (shape_of y)) (zone_in layout) (end_in layout) k
   padded_zones_at = padded_zones pad (shape_of y) short (zones_at y d l short)
 
-  pub padded_rows_at : PaddedRows (padded_at pad (shape_of y)) (λ j. (block_at y j).base) (row_in s) k pad (total (shape_of y))
+  pub padded_rows_at : PaddedRows (padded_at pad (shape_of y)) (λ j. (block_at y j).base) (slot_in layout) k pad (total (shape_of y))
   padded_rows_at = padded_rows pad (shape_of y)
       (λ j q h x.
       let small : j < length (shape_of y) = let c = shape_length y in omega arith in
@@ -78,7 +79,7 @@ module _ (pad : ℕ) (y : List ℕ) {k : ℕ} (d : k ≡ block_count y) {z e s :
       (slot_rows_at y d l)
 
   -- where a base shares a character with the blocks, and with the padding
-  pub shares_at : {base on waits m : ℕ} → m ≡ total (shape_of y) → Exactly on (MeetsOne (λ j. (block_at y j).base) (row_in s) k base) → Exactly waits (λ q. Meets base pad × (q ≡ m))
+  pub shares_at : {base on waits m : ℕ} → m ≡ total (shape_of y) → Exactly on (MeetsOne (λ j. (block_at y j).base) (slot_in layout) k base) → Exactly waits (λ q. Meets base pad × (q ≡ m))
       → Shares (padded_at pad (shape_of y)) base on waits
   shares_at {base} {waits = waits} f x w = padded_shares pad (shape_of y) short (mine_at y d l x) (subst (λ (q : ℕ). Exactly waits (λ p. Meets base pad × (p ≡ q))) f w)
 

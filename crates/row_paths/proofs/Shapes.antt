@@ -16,7 +16,8 @@ use Rattle.walks.proofs.Laid.{slots, in_slots, bounded}
 use Rattle.walks.proofs.Fillings.{has_at, start_at, slots_take, total_take}
 use Rattle.pads.specs.Pad.{padded_at}
 use Rattle.pads.proofs.Paths.{padded_slot, padded_below, padded_end, ended}
-use Rattle.rows.specs.Row.{row_in}
+use Rattle.rows.specs.declared.LaidBlock.{LaidBlock}
+use Rattle.rows.specs.Row.{zone_in, end_in, slot_in}
 use Rattle.row_lay.specs.Lay.{Lay}
 use Rattle.row_lay.proofs.Laid.{past_all, zone_run, stop_is, run_zone, slot_base, in_slot}
 use Rattle.row_paths.specs.Rows.{BlockIn, Zones, Shares}
@@ -39,8 +40,8 @@ block_in s i l = record {
 
 -- ---- a shape laid out in rows
 
-module _ {S : List Block} {z e s : List ℕ} (l : Lay S z e s) where
-  pub zones_of : total S ≤ 250 → Zones (slot_at S) (row_in z) (row_in e) (length S)
+module _ {S : List Block} {layout : List LaidBlock} (l : Lay S layout) where
+  pub zones_of : total S ≤ 250 → Zones (slot_at S) (zone_in layout) (end_in layout) (length S)
   zones_of h = record {
     free = λ j q b x. (zone_run l j q b x).0;
     stop = λ j q y b x w. stop_is l j q y b x w;
@@ -48,7 +49,7 @@ module _ {S : List Block} {z e s : List ℕ} (l : Lay S z e s) where
     within = λ q c k. let w = held_within S q c k in omega arith;
   }
 
-  pub slot_rows : SlotRows (slot_at S) (λ j. (get_or S j no_block).base) (row_in s) (length S)
+  pub slot_rows : SlotRows (slot_at S) (λ j. (get_or S j no_block).base) (slot_in layout) (length S)
   slot_rows = record { base = λ j q b x. slot_base l j q b x; find = λ q c k. in_slot l q c k }
 
 -- ---- the same with padding behind the blocks

@@ -1,13 +1,11 @@
--- A lent shape and its rows of positions, with room for all its blocks.
-use Rattle.std.specs.Prelude.{List, ℕ, ◌≤◌}
+-- A lent shape and its rows of positions, one for each of its blocks.
+use Rattle.std.specs.Prelude.{◌≡◌, List, ℕ, length}
 use Rattle.shapes.specs.Lent.{Whole, shape_of}
 use Rattle.row_lay.specs.Lay.{Lay}
 use Rattle.shapes.specs.Shape.{block_count}
-use Rattle.rows.specs.Row.{row_count}
+use Rattle.rows.specs.declared.LaidBlock.{LaidBlock}
 
-pub record Laid (x zones ends slots : List ℕ) : Type 0 where
+pub record Laid (x : List ℕ) (layout : List LaidBlock) : Type 0 where
   pub whole : Whole x
-  pub lay : Lay (shape_of x) zones ends slots
-  pub zones_long : block_count x ≤ row_count zones
-  pub ends_long : block_count x ≤ row_count ends
-  pub slots_long : block_count x ≤ row_count slots
+  pub lay : Lay (shape_of x) layout
+  pub long : length layout ≡ block_count x

@@ -33,9 +33,6 @@ any_more {A} {j} {r} {t} {r'} x e d =
           (lt_or_le a.number j));
     }
 
-pub any_all : {A : ℕ → ℕ} {j k r : ℕ} → Exactly r (AnyOf A j) → j ≡ k → Exactly r (AnyOf A k)
-any_all {A} {r = r} x e = subst (λ (n : ℕ). Exactly r (AnyOf A n)) e x
-
 module _ {Z E : ℕ → ℕ} {k F S : ℕ} (turn : InTurn Z E k) (all : Together Z E k F S) where
   is_stop : (j q : ℕ) → j < k → Holds (E j) q → Holds S q
   is_stop j q h b = all.stops_is.has q (record { number = j; below = h; held = b })

@@ -11,11 +11,12 @@ use Rattle.bases.specs.Base.{Holds, Meets}
 use Rattle.plain.specs.Tells.{Tells}
 use Rattle.plain.proofs.Plain.{lt_or_le, eq_or_ne}
 use Rattle.bases.proofs.Sets.{either, in_first, in_second, turned}
+use Rattle.sets.specs.declared.Set.{Set}
 use Rattle.sets.specs.Set.{Exactly}
 use Rattle.sets.proofs.Exact.{none_exactly, exactly_as}
 use Rattle.rows.specs.Row.{row_in, PutRow}
 use Rattle.rows.proofs.Rows.{rows_more}
-use Rattle.rows.specs.Steps.{Leads, there, step, Lands, InTurn, MeetsOne, Given}
+use Rattle.rows.specs.Steps.{Leads, there, step, Lands, InTurn}
 
 -- ---- one set added to another
 
@@ -184,11 +185,6 @@ module _ {Z E : ℕ → ℕ} {k s j r r' : ℕ} (turn : InTurn Z E k) where
 
 -- ---- what is picked in the end
 
-pub all_matched : {A B : ℕ → ℕ} {j k s r : ℕ} → j ≡ k → Exactly r (Picked (Below j) (λ i. Meets s (A i)) B) → Exactly r (MeetsOne A B k s)
-all_matched e = exactly_as
-    (λ q p. let h = p.done in record { number = p.number; below = omega arith; meets = p.on; held = p.held })
-    (λ q p. let h = p.below in record { number = p.number; done = omega arith; on = p.meets; held = p.held })
-
 pub all_landed : {A B : ℕ → ℕ} {j k s r : ℕ} → j ≡ 0 → Exactly r (Picked (From j k) (λ i. Meets s (B i)) A) → Exactly r (Lands A B k s)
 all_landed e = exactly_as
     (λ q p. record { number = p.number; below = p.done.1; from = p.held; to = meets_turned p.on })
@@ -200,15 +196,12 @@ all_landed e = exactly_as
 -- ---- rows given to
 
 -- the first j rows are given t where s meets their S; from j on none is touched
-pub record Giving (S : ℕ → ℕ) (s t : ℕ) (w₀ w : List ℕ) (j : ℕ) : Type 0 where
+pub record Giving (S : ℕ → ℕ) (s t : ℕ) (w₀ w : List Set) (j : ℕ) : Type 0 where
   pub long : length w ≡ length w₀
   pub done : (i : ℕ) → i < j → Added (Meets s (S i)) (row_in w₀ i) t (row_in w i)
   pub ahead : (i : ℕ) → j ≤ i → row_in w i ≡ row_in w₀ i
 
-pub giving_none : {S : ℕ → ℕ} {s t : ℕ} {w : List ℕ} → Giving S s t w w 0
-giving_none = record { long = refl; done = λ i h. absurd (omega arith); ahead = λ i h. refl }
-
-giving_more : {S : ℕ → ℕ} {s t : ℕ} {w₀ w w' : List ℕ} {j u : ℕ} → Giving S s t w₀ w j → PutRow w j u w' → Added (Meets s (S j)) (row_in w j) t u
+giving_more : {S : ℕ → ℕ} {s t : ℕ} {w₀ w w' : List Set} {j u : ℕ} → Giving S s t w₀ w j → PutRow w j u w' → Added (Meets s (S j)) (row_in w j) t u
     → Giving S s t w₀ w' (j + 1)
 giving_more {S} {s} {t} {w₀} {j = j} {u = u} g p d = record {
   long = p.long ∙ g.long;
@@ -218,31 +211,16 @@ giving_more {S} {s} {t} {w₀} {j = j} {u = u} g p d = record {
 }
 
 -- a row is set, as a test says
-pub giving_with : {S : ℕ → ℕ} {s t : ℕ} {w₀ w w' : List ℕ} {j v u : ℕ} (on : Bool) → Giving S s t w₀ w j → Tells on (Meets s (S j))
+pub giving_with : {S : ℕ → ℕ} {s t : ℕ} {w₀ w w' : List Set} {j v u : ℕ} (on : Bool) → Giving S s t w₀ w j → Tells on (Meets s (S j))
     → v ≡ row_in w j → (on ≡ true → u ≡ bit_or v t) → (on ≡ false → u ≡ v) → PutRow w j u w' → Giving S s t w₀ w' (j + 1)
 giving_with {S} {s} {t} {w = w} {j = j} {u = u} on g tells e add keep p = giving_more g p (subst (λ (x : ℕ). Added (Meets s (S j)) x t u) e (added_with on tells refl add keep))
 
 -- a row is set, or none is
-pub giving_so : {S : ℕ → ℕ} {s t : ℕ} {w₀ w w' w'' : List ℕ} {j v u : ℕ} → Giving S s t w₀ w j → Meets s (S j)
+pub giving_so : {S : ℕ → ℕ} {s t : ℕ} {w₀ w w' w'' : List Set} {j v u : ℕ} → Giving S s t w₀ w j → Meets s (S j)
     → v ≡ row_in w j → u ≡ bit_or v t → PutRow w j u w' → w'' ≡ w' → Giving S s t w₀ w'' (j + 1)
-giving_so {S} {s} {t} {w₀} {j = j} g m e o p same = subst (λ (x : List ℕ). Giving S s t w₀ x (j + 1)) (sym same)
+giving_so {S} {s} {t} {w₀} {j = j} g m e o p same = subst (λ (x : List Set). Giving S s t w₀ x (j + 1)) (sym same)
     (giving_more g p (added_so m refl (o ∙ ap (λ (x : ℕ). bit_or x t) e)))
 
-pub giving_not : {S : ℕ → ℕ} {s t : ℕ} {w₀ w w'' : List ℕ} {j : ℕ} → Giving S s t w₀ w j → (Meets s (S j) → ⊥) → w'' ≡ w → Giving S s t w₀ w'' (j + 1)
-giving_not {S} {s} {t} {w₀} {j = j} g n same = subst (λ (x : List ℕ). Giving S s t w₀ x (j + 1)) (sym same)
+pub giving_not : {S : ℕ → ℕ} {s t : ℕ} {w₀ w w'' : List Set} {j : ℕ} → Giving S s t w₀ w j → (Meets s (S j) → ⊥) → w'' ≡ w → Giving S s t w₀ w'' (j + 1)
+giving_not {S} {s} {t} {w₀} {j = j} g n same = subst (λ (x : List Set). Giving S s t w₀ x (j + 1)) (sym same)
     (giving_more g (record { long = refl; here = refl; kept = λ i h. refl }) (added_not n refl))
-
-pub all_given : {S : ℕ → ℕ} {s t : ℕ} {w₀ w : List ℕ} {j k : ℕ} → j ≡ k → Giving S s t w₀ w j → Given S k s t (row_in w₀) (row_in w)
-all_given e g = record {
-  so = λ i c h. (g.done i (omega arith)).so c;
-  kept = λ i c h. (g.done i (omega arith)).kept c;
-  more = λ i c h. (g.done i (omega arith)).more c;
-}
-
--- ---- the same of an equal row
-
-pub matched_as : {A B : ℕ → ℕ} {k r s s' : ℕ} → s ≡ s' → Exactly r (MeetsOne A B k s) → Exactly r (MeetsOne A B k s')
-matched_as {A} {B} {k} {r} e x = subst (λ (z : ℕ). Exactly r (MeetsOne A B k z)) e x
-
-pub given_as : {S : ℕ → ℕ} {k t s s' : ℕ} {A B : ℕ → ℕ} → s ≡ s' → Given S k s t A B → Given S k s' t A B
-given_as {S} {k} {t} {A = A} {B = B} e g = subst (λ (z : ℕ). Given S k z t A B) e g

@@ -2,62 +2,46 @@
 
 #![tactic(auto)]
 
-ghost use Rattle.std.specs.Prelude.{◌≡◌, true, false, ◌≤◌, length};
+ghost use Rattle.std.specs.Prelude.{◌≡◌, ℕ, List, true, false, ◌*◌, ◌/◌, ◌%◌, ◌^◌, ◌<◌, ◌≤◌, length, bit_and};
+ghost use Rattle.std.proofs.Common.{rules};
 ghost use Rattle.std.specs.Int.Bits.{bit_or};
+ghost use Rattle.bases.specs.Base.{Empty, Meets};
+ghost use Rattle.plain.specs.Tells.{Tells};
+ghost use Rattle.sets.specs.declared.Set.{Set};
 ghost use Rattle.sets.specs.Set.{set_of, Exactly};
 ghost use Rattle.shapes.specs.Lent.{block_at};
-ghost use Rattle.rows.specs.Row.{row_in, row_count};
-ghost use Rattle.rows.specs.Steps.{Leads, Lands, InTurn, MeetsOne, Given, AnyOf, Together, ClosedForth, ClosedBack};
+ghost use Rattle.rows.specs.Row.{row_in, zone_in, end_in, slot_in};
+ghost use Rattle.rows.specs.Steps.{Leads, Lands, InTurn, MeetsOne, Given, Together, ClosedForth, ClosedBack};
 ghost use Rattle.shapes.specs.Shape.{block_count};
 ghost use Rattle.carries.specs.Climb.{Spans};
 
+use rows::LaidBlock;
 use sets::Set;
 
-// A row closed backwards, and the positions at which a run may end and land in it.
+// A row closed backwards, and the positions at which a run may end and land in it: in four words or in one.
 #[derive(Clone, Copy)]
-pub struct Closed {
-    pub row: Set,
-    pub quit: Set,
+pub struct Closed<R> {
+    pub row: R,
+    pub quit: R,
 }
 
-// All from which s is reached where a run that may end at a position of `zones` is then at its `ends`, from the last of
-// k to the first.
-fn back(zones: &[u64], ends: &[u64], k: usize, s: Set) -> Closed
-    requires k_bound { (k ≤ row_count zones.now) × (k ≤ row_count ends.now) }
-    requires in_turn { InTurn (row_in zones.now) (row_in ends.now) k }
-    ensures exactly { Exactly (set_of result.row) (Leads (row_in zones.now) (row_in ends.now) k (set_of s)) }
-    ensures exactly_2 { Exactly (set_of result.quit) (Lands (row_in zones.now) (row_in ends.now) k (set_of result.row)) }
+// All from which s is reached where a run that may end at a position of a zone is then at its end, from the last block
+// to the first.
+fn back(layout: &[LaidBlock], s: Set) -> Closed<Set>
+    requires { InTurn (zone_in layout.now) (end_in layout.now) (length layout.now) }
+    ensures exactly { Exactly (set_of result.row) (Leads (zone_in layout.now) (end_in layout.now) (length layout.now) (set_of s)) }
+    ensures exactly_2 { Exactly (set_of result.quit) (Lands (zone_in layout.now) (end_in layout.now) (length layout.now) (set_of result.row)) }
 {
     let mut row = s;
     let mut quit = sets::none();
-    let mut j = k;
-    while 0 < j {
-        j -= 1;
-        let zone = rows::row_at(zones, j);
-        let end = rows::row_at(ends, j);
-        if sets::meets(row, end) {
-            row = sets::either(row, zone);
-            quit = sets::either(quit, zone);
+    for j in (0..layout.len()).rev() {
+        let laid = layout[j];
+        if sets::meets(row, laid.end) {
+            row = sets::either(row, laid.zone);
+            quit = sets::either(quit, laid.zone);
         }
     }
-    Closed {
-        row: row,
-        quit: quit,
-    }
-}
-
-// The first k rows in one.
-fn all(rows: &[u64], k: usize) -> Set
-    requires { k ≤ row_count rows.now }
-    ensures { Exactly (set_of result) (AnyOf (row_in rows.now) k) }
-{
-    let mut r = sets::none();
-    let mut j = 0;
-    while j < k {
-        r = sets::either(r, rows::row_at(rows, j));
-        j += 1;
-    }
-    r
+    Closed { row, quit }
 }
 
 // Where any run may end, and where it then is.
@@ -67,14 +51,16 @@ pub struct Runs {
     pub stops: Set,
 }
 
-pub fn all_runs(zones: &[u64], ends: &[u64], k: usize) -> Runs
-    requires { (k ≤ row_count zones.now) × (k ≤ row_count ends.now) }
-    ensures { Together (row_in zones.now) (row_in ends.now) k (set_of result.free) (set_of result.stops) }
+pub fn all_runs(layout: &[LaidBlock]) -> Runs
+    ensures { Together (zone_in layout.now) (end_in layout.now) (length layout.now) (set_of result.free) (set_of result.stops) }
 {
-    Runs {
-        free: all(zones, k),
-        stops: all(ends, k),
+    let mut free = sets::none();
+    let mut stops = sets::none();
+    for laid in layout {
+        free = sets::either(free, laid.zone);
+        stops = sets::either(stops, laid.end);
     }
+    Runs { free, stops }
 }
 
 // All that is reached from s by the ends of runs.
@@ -86,7 +72,7 @@ pub fn close_forth(runs: Runs, s: Set) -> Set
 }
 
 // All from which s is reached by the ends of runs. `spans` are those of the free positions.
-fn close_back(spans: &[u64], runs: Runs, s: Set) -> Closed
+fn close_back(spans: &[Set], runs: Runs, s: Set) -> Closed<Set>
     requires { Spans (set_of runs.free) spans.now }
     ensures { ClosedBack (set_of runs.free) (set_of runs.stops) (set_of s) (set_of result.row) (set_of result.quit) }
 {
@@ -94,189 +80,368 @@ fn close_back(spans: &[u64], runs: Runs, s: Set) -> Closed
     let quit = carries::fall(runs.free, spans, sets::both(s, stops));
     Closed {
         row: sets::either(s, quit),
-        quit: quit,
+        quit,
     }
 }
 
-// Both in one word.
-pub fn close_forth_word(free: u64, stops: u64, s: u64) -> u64
-    ensures { ClosedForth free stops s result }
-{
-    s | carries::climb_word(free, s) & stops
-}
-
-#[derive(Clone, Copy)]
-pub struct ClosedWord {
-    pub row: u64,
-    pub quit: u64,
-}
-
-pub fn close_back_word(free: u64, stops: u64, s: u64) -> ClosedWord
+// The same in one word, whichever layout these are the free positions and the ends of.
+pub fn close_back_word(free: u64, stops: u64, s: u64) -> Closed<u64>
     ensures { ClosedBack free stops s result.row result.quit }
 {
     let quit = carries::fall_to_word(free, s & stops);
-    ClosedWord {
+    Closed {
         row: s | quit,
-        quit: quit,
+        quit,
     }
 }
 
 // The same; through few runs it is quicker to go one by one.
-pub fn back_by(zones: &[u64], ends: &[u64], k: usize, spans: &[u64], runs: Runs, s: Set) -> Closed
-    requires k_bound { (k ≤ row_count zones.now) × (k ≤ row_count ends.now) }
-    requires in_turn { InTurn (row_in zones.now) (row_in ends.now) k }
-    requires together { Together (row_in zones.now) (row_in ends.now) k (set_of runs.free) (set_of runs.stops) × Spans (set_of runs.free) spans.now }
-    ensures exactly { Exactly (set_of result.row) (Leads (row_in zones.now) (row_in ends.now) k (set_of s)) }
-    ensures exactly_2 { Exactly (set_of result.quit) (Lands (row_in zones.now) (row_in ends.now) k (set_of result.row)) }
+pub fn back_by(layout: &[LaidBlock], spans: &[Set], runs: Runs, s: Set) -> Closed<Set>
+    requires in_turn { InTurn (zone_in layout.now) (end_in layout.now) (length layout.now) }
+    requires together { Together (zone_in layout.now) (end_in layout.now) (length layout.now) (set_of runs.free) (set_of runs.stops) × Spans (set_of runs.free) spans.now }
+    ensures exactly { Exactly (set_of result.row) (Leads (zone_in layout.now) (end_in layout.now) (length layout.now) (set_of s)) }
+    ensures exactly_2 { Exactly (set_of result.quit) (Lands (zone_in layout.now) (end_in layout.now) (length layout.now) (set_of result.row)) }
 {
-    if k < 4 {
-        return back(zones, ends, k, s);
+    if layout.len() < 4 {
+        return back(layout, s);
     }
     close_back(spans, runs, s)
 }
 
-// The rows of the first k blocks whose base meets a base.
-pub fn matching(base: Set, blocks: &[u64], rows: &[u64], k: usize) -> Set
-    requires { (k ≤ block_count blocks.now) × (k ≤ row_count rows.now) }
-    ensures { Exactly (set_of result) (MeetsOne (λ j. (block_at blocks.now j).base) (row_in rows.now) k (set_of base)) }
+// The positions of the blocks laid out whose base meets a base.
+pub fn matching(base: Set, blocks: &[u64], layout: &[LaidBlock]) -> Set
+    requires { length layout.now ≤ block_count blocks.now }
+    ensures { Exactly (set_of result) (MeetsOne (λ j. (block_at blocks.now j).base) (slot_in layout.now) (length layout.now) (set_of base)) }
 {
     let mut r = sets::none();
-    let mut j = 0;
-    while j < k {
+    for (j, laid) in layout.iter().enumerate() {
         let b = shapes::block_at(blocks, j);
         if sets::meets(base, b.base) {
-            r = sets::either(r, rows::row_at(rows, j));
+            r = sets::either(r, laid.slot);
         }
-        j += 1;
     }
     r
 }
 
-// Adds a set where it counts.
-pub fn with(s: Set, t: Set, on: bool) -> Set
-    ensures result_value { on ≡ true → set_of result ≡ bit_or (set_of s) (set_of t) }
-    ensures result_value_2 { on ≡ false → set_of result ≡ set_of s }
+// Adds a row where it counts.
+pub fn with<R: Row>(s: R, t: R, on: bool) -> R
+    ensures result_value { on ≡ true → R.bits result ≡ bit_or (R.bits s) (R.bits t) }
+    ensures result_value_2 { on ≡ false → R.bits result ≡ R.bits s }
 {
-    if on {
-        return sets::either(s, t);
-    }
-    s
+    if on { s.either(t) } else { s }
 }
 
-// The bases of the first k blocks whose row meets a row.
-fn joined_wide(row: Set, blocks: &[u64], rows: &[u64], k: usize) -> Set
-    requires { (k ≤ block_count blocks.now) × (k ≤ row_count rows.now) }
-    ensures { Exactly (set_of result) (MeetsOne (row_in rows.now) (λ j. (block_at blocks.now j).base) k (set_of row)) }
+// The bases of the blocks laid out whose positions meet a row.
+fn joined_wide(row: Set, blocks: &[u64], layout: &[LaidBlock]) -> Set
+    requires { length layout.now ≤ block_count blocks.now }
+    ensures { Exactly (set_of result) (MeetsOne (slot_in layout.now) (λ j. (block_at blocks.now j).base) (length layout.now) (set_of row)) }
 {
     let mut r = sets::none();
-    let mut j = 0;
-    while j < k {
-        if sets::meets(row, rows::row_at(rows, j)) {
+    for (j, laid) in layout.iter().enumerate() {
+        if sets::meets(row, laid.slot) {
             let b = shapes::block_at(blocks, j);
             r = sets::either(r, b.base);
         }
-        j += 1;
     }
     r
 }
 
-// The same of a row in one word, without a branch.
-fn joined_word(row: u64, blocks: &[u64], rows: &[u64], k: usize) -> Set
-    requires { (k ≤ block_count blocks.now) × (k ≤ row_count rows.now) }
-    ensures { Exactly (set_of result) (MeetsOne (row_in rows.now) (λ j. (block_at blocks.now j).base) k row) }
+// The same of a row in one word, without a branch. A closure for the test would not make one of the two: above, a block
+// is read only where the test holds.
+fn joined_word(row: u64, blocks: &[u64], layout: &[LaidBlock]) -> Set
+    requires { length layout.now ≤ block_count blocks.now }
+    ensures { Exactly (set_of result) (MeetsOne (slot_in layout.now) (λ j. (block_at blocks.now j).base) (length layout.now) row) }
 {
     let mut r = sets::none();
-    let mut j = 0;
-    while j < k {
+    for (j, laid) in layout.iter().enumerate() {
         let b = shapes::block_at(blocks, j);
-        r = with(r, b.base, carries::meets_word(rows::row_at(rows, j), row));
-        j += 1;
+        r = with(r, b.base, carries::meets_word(laid.slot, row));
     }
     r
 }
 
-pub fn joined(row: Set, blocks: &[u64], rows: &[u64], k: usize) -> Set
-    requires { (k ≤ block_count blocks.now) × (k ≤ row_count rows.now) }
-    ensures { Exactly (set_of result) (MeetsOne (row_in rows.now) (λ j. (block_at blocks.now j).base) k (set_of row)) }
+pub fn joined(row: Set, blocks: &[u64], layout: &[LaidBlock]) -> Set
+    requires { length layout.now ≤ block_count blocks.now }
+    ensures { Exactly (set_of result) (MeetsOne (slot_in layout.now) (λ j. (block_at blocks.now j).base) (length layout.now) (set_of row)) }
 {
-    if carries::is_word(row) {
-        return joined_word(row.a, blocks, rows, k);
+    match carries::as_word(row) {
+        Some(w) => joined_word(w, blocks, layout),
+        None => joined_wide(row, blocks, layout),
     }
-    joined_wide(row, blocks, rows, k)
 }
 
-// Adds a base to each of k sets whose row meets a row.
-fn give_wide(row: Set, base: Set, rows: &[u64], given: &mut [u64], k: usize)
-    requires { (k ≤ row_count rows.now) × (k ≤ row_count given.old) }
-    ensures given { Given (row_in rows.now) k (set_of row) (set_of base) (row_in given.old) (row_in given.new) }
+// Adds a base to the set given to each block laid out whose positions meet a row.
+fn give_wide(row: Set, base: Set, layout: &[LaidBlock], given: &mut [Set])
+    requires { length layout.now ≤ length given.old }
+    ensures given { Given (slot_in layout.now) (length layout.now) (set_of row) (set_of base) (row_in given.old) (row_in given.new) }
     ensures given_len_unchanged { length given.new ≡ length given.old }
 {
-    let mut j = 0;
-    while j < k {
-        if sets::meets(row, rows::row_at(rows, j)) {
-            rows::put_row(given, j, sets::either(rows::row_at(given, j), base));
+    for (j, laid) in layout.iter().enumerate() {
+        if sets::meets(row, laid.slot) {
+            given[j] = sets::either(given[j], base);
         }
-        j += 1;
     }
 }
 
-// The same of a row in one word, without a branch.
-fn give_word(row: u64, base: Set, rows: &[u64], given: &mut [u64], k: usize)
-    requires { (k ≤ row_count rows.now) × (k ≤ row_count given.old) }
-    ensures given { Given (row_in rows.now) k row (set_of base) (row_in given.old) (row_in given.new) }
+// The same of a row in one word, without a branch, so that the two differ in more than a test that a closure could be.
+fn give_word(row: u64, base: Set, layout: &[LaidBlock], given: &mut [Set])
+    requires { length layout.now ≤ length given.old }
+    ensures given { Given (slot_in layout.now) (length layout.now) row (set_of base) (row_in given.old) (row_in given.new) }
     ensures given_len_unchanged { length given.new ≡ length given.old }
 {
-    let mut j = 0;
-    while j < k {
-        let on = carries::meets_word(rows::row_at(rows, j), row);
-        let had = rows::row_at(given, j);
-        rows::put_row(given, j, with(had, base, on));
-        j += 1;
+    for (j, laid) in layout.iter().enumerate() {
+        given[j] = with(given[j], base, carries::meets_word(laid.slot, row));
     }
 }
 
-pub fn give(row: Set, base: Set, rows: &[u64], given: &mut [u64], k: usize)
-    requires { (k ≤ row_count rows.now) × (k ≤ row_count given.old) }
-    ensures given { Given (row_in rows.now) k (set_of row) (set_of base) (row_in given.old) (row_in given.new) }
+pub fn give(row: Set, base: Set, layout: &[LaidBlock], given: &mut [Set])
+    requires { length layout.now ≤ length given.old }
+    ensures given { Given (slot_in layout.now) (length layout.now) (set_of row) (set_of base) (row_in given.old) (row_in given.new) }
     ensures given_len_unchanged { length given.new ≡ length given.old }
 {
-    if carries::is_word(row) {
-        give_word(row.a, base, rows, given, k);
-        return;
+    match carries::as_word(row) {
+        Some(w) => give_word(w, base, layout, given),
+        None => give_wide(row, base, layout, given),
     }
-    give_wide(row, base, rows, given, k);
 }
 
-// Both at once, through the blocks once: the base goes to each of k sets whose row meets a row, and the bases of those
-// blocks are given.
-fn share_wide(row: Set, base: Set, blocks: &[u64], rows: &[u64], given: &mut [u64], k: usize) -> Set
-    requires { (k ≤ block_count blocks.now) × (k ≤ row_count rows.now) × (k ≤ row_count given.old) }
-    ensures exactly { Exactly (set_of result) (MeetsOne (row_in rows.now) (λ j. (block_at blocks.now j).base) k (set_of row)) }
-    ensures given { Given (row_in rows.now) k (set_of row) (set_of base) (row_in given.old) (row_in given.new) }
+// Both at once, through the blocks once: the base goes to the set given to each whose positions meet a row, and the
+// bases of those blocks are given.
+fn share_wide(row: Set, base: Set, blocks: &[u64], layout: &[LaidBlock], given: &mut [Set]) -> Set
+    requires { (length layout.now ≤ block_count blocks.now) × (length layout.now ≤ length given.old) }
+    ensures exactly { Exactly (set_of result) (MeetsOne (slot_in layout.now) (λ j. (block_at blocks.now j).base) (length layout.now) (set_of row)) }
+    ensures given { Given (slot_in layout.now) (length layout.now) (set_of row) (set_of base) (row_in given.old) (row_in given.new) }
     ensures given_len_unchanged { length given.new ≡ length given.old }
 {
     let mut r = sets::none();
-    let mut j = 0;
-    while j < k {
-        if sets::meets(row, rows::row_at(rows, j)) {
+    for (j, laid) in layout.iter().enumerate() {
+        if sets::meets(row, laid.slot) {
             let b = shapes::block_at(blocks, j);
             r = sets::either(r, b.base);
-            rows::put_row(given, j, sets::either(rows::row_at(given, j), base));
+            given[j] = sets::either(given[j], base);
         }
-        j += 1;
     }
     r
 }
 
-pub fn share(row: Set, base: Set, blocks: &[u64], rows: &[u64], given: &mut [u64], k: usize) -> Set
-    requires { (k ≤ block_count blocks.now) × (k ≤ row_count rows.now) × (k ≤ row_count given.old) }
-    ensures exactly { Exactly (set_of result) (MeetsOne (row_in rows.now) (λ j. (block_at blocks.now j).base) k (set_of row)) }
-    ensures given { Given (row_in rows.now) k (set_of row) (set_of base) (row_in given.old) (row_in given.new) }
+pub fn share(row: Set, base: Set, blocks: &[u64], layout: &[LaidBlock], given: &mut [Set]) -> Set
+    requires { (length layout.now ≤ block_count blocks.now) × (length layout.now ≤ length given.old) }
+    ensures exactly { Exactly (set_of result) (MeetsOne (slot_in layout.now) (λ j. (block_at blocks.now j).base) (length layout.now) (set_of row)) }
+    ensures given { Given (slot_in layout.now) (length layout.now) (set_of row) (set_of base) (row_in given.old) (row_in given.new) }
     ensures given_len_unchanged { length given.new ≡ length given.old }
 {
-    if carries::is_word(row) {
-        give_word(row.a, base, rows, given, k);
-        return joined_word(row.a, blocks, rows, k);
+    match carries::as_word(row) {
+        Some(w) => {
+            give_word(w, base, layout, given);
+            joined_word(w, blocks, layout)
+        }
+        None => share_wide(row, base, blocks, layout, given),
     }
-    share_wide(row, base, blocks, rows, given, k)
+}
+
+// A row of equality's passes, in four words or in one, and what these do with it.
+pub trait Row: Copy {
+    ghost bits: { Self → ℕ };
+
+    // Its numbers are below this.
+    ghost room: { ℕ };
+
+    ghost CanRise: { Self → Type 0 };
+
+    // That a row can have all the numbers of a set.
+    ghost Fits: { Set → Type 0 };
+
+    // That these are the spans of the free positions, where a row wants them.
+    ghost Spanned: { Self → List Set → Type 0 };
+
+    fn none() -> Self
+        ensures { bits result ≡ 0 };
+
+    // A set that fits as a row.
+    fn of(s: Set) -> Self
+        ensures { Fits s → bits result ≡ set_of s };
+
+    fn set(self) -> Set
+        ensures set { set_of result ≡ bits self }
+        ensures fits { Fits result };
+
+    // The numbers of both.
+    fn both(self, t: Self) -> Self
+        ensures { bits result ≡ bit_and (bits self) (bits t) };
+
+    // Those of a set that the row has too.
+    fn within(self, s: Set) -> Self
+        ensures { bits result ≡ bit_and (set_of s) (bits self) };
+
+    fn either(self, t: Self) -> Self
+        ensures { bits result ≡ bit_or (bits self) (bits t) };
+
+    // The numbers of both, each one up: `CanRise` says that none is lost.
+    fn rise(self, mine: Self) -> Self
+        requires { CanRise mine }
+        ensures { bits result ≡ bit_and (bits self) (bits mine) * 2 % 2 ^ 256 };
+
+    // Each number one down.
+    fn down(self) -> Self
+        ensures { bits result ≡ bits self / 2 };
+
+    fn is_empty(self) -> bool
+        ensures { Tells result (Empty (bits self)) };
+
+    // Whether it shares a number with a set.
+    fn meets(self, s: Set) -> bool
+        ensures { Tells result (Meets (set_of s) (bits self)) };
+
+    // The set of one number that a row has room for.
+    fn single(i: usize) -> Set
+        requires { i < room }
+        ensures { Exactly (set_of result) (λ e. e ≡ i) };
+
+    // All that is reached from s by the ends of runs.
+    fn forth(free: Self, stops: Self, s: Self) -> Self
+        ensures { ClosedForth (bits free) (bits stops) (bits s) (bits result) };
+
+    // All from which s is reached by the ends of runs.
+    fn back(layout: &[LaidBlock], spans: &[Set], free: Self, stops: Self, s: Self) -> Closed<Self>
+        requires in_turn { InTurn (zone_in layout.now) (end_in layout.now) (length layout.now) }
+        requires together { Together (zone_in layout.now) (end_in layout.now) (length layout.now) (bits free) (bits stops) }
+        requires spanned { Spanned free spans.now }
+        ensures exactly { Exactly (bits result.row) (Leads (zone_in layout.now) (end_in layout.now) (length layout.now) (bits s)) }
+        ensures exactly_2 { Exactly (bits result.quit) (Lands (zone_in layout.now) (end_in layout.now) (length layout.now) (bits result.row)) };
+
+    // A set has room for all that a row has room for.
+    ghost narrow: { room ≤ 256 };
+}
+
+impl Row for Set {
+    ghost bits = { set_of };
+
+    ghost room = { 256 };
+
+    ghost CanRise = { λ s. Unit {0} };
+
+    ghost Fits = { λ s. Unit {0} };
+
+    ghost Spanned = { λ s l. Spans (set_of s) l };
+
+    ghost narrow = { Prim.search rules };
+
+    fn none() -> Set {
+        sets::none()
+    }
+
+    fn of(s: Set) -> Set {
+        s
+    }
+
+    fn set(self) -> Set {
+        self
+    }
+
+    fn both(self, t: Set) -> Set {
+        sets::both(self, t)
+    }
+
+    fn within(self, s: Set) -> Set {
+        sets::both(s, self)
+    }
+
+    fn either(self, t: Set) -> Set {
+        sets::either(self, t)
+    }
+
+    fn rise(self, mine: Set) -> Set {
+        sets::up(sets::both(self, mine))
+    }
+
+    fn down(self) -> Set {
+        sets::down(self)
+    }
+
+    fn is_empty(self) -> bool {
+        sets::is_empty(self)
+    }
+
+    fn meets(self, s: Set) -> bool {
+        sets::meets(s, self)
+    }
+
+    fn single(i: usize) -> Set {
+        sets::single(i)
+    }
+
+    fn forth(free: Set, stops: Set, s: Set) -> Set {
+        close_forth(Runs { free, stops }, s)
+    }
+
+    fn back(layout: &[LaidBlock], spans: &[Set], free: Set, stops: Set, s: Set) -> Closed<Set> {
+        back_by(layout, spans, Runs { free, stops }, s)
+    }
+}
+
+impl Row for u64 {
+    ghost bits = { λ w. w };
+
+    ghost room = { 64 };
+
+    ghost CanRise = { λ w. w < 9223372036854775808 };
+
+    ghost Fits = { λ s. set_of s ≡ s.a };
+
+    ghost Spanned = { λ w l. Unit {0} };
+
+    ghost narrow = { Prim.search rules };
+
+    fn none() -> u64 {
+        0
+    }
+
+    fn of(s: Set) -> u64 {
+        s.a
+    }
+
+    fn set(self) -> Set {
+        carries::word_set(self)
+    }
+
+    fn both(self, t: u64) -> u64 {
+        self & t
+    }
+
+    fn within(self, s: Set) -> u64 {
+        carries::in_word(s, self)
+    }
+
+    fn either(self, t: u64) -> u64 {
+        self | t
+    }
+
+    fn rise(self, mine: u64) -> u64 {
+        (self & mine) << 1
+    }
+
+    fn down(self) -> u64 {
+        self >> 1
+    }
+
+    fn is_empty(self) -> bool {
+        self == 0
+    }
+
+    fn meets(self, s: Set) -> bool {
+        carries::meets_word(s, self)
+    }
+
+    // One shift, where `single` of a set tries each word.
+    fn single(i: usize) -> Set {
+        carries::word_set(1u64 << i)
+    }
+
+    fn forth(free: u64, stops: u64, s: u64) -> u64 {
+        s | carries::climb_word(free, s) & stops
+    }
+
+    fn back(_layout: &[LaidBlock], _spans: &[Set], free: u64, stops: u64, s: u64) -> Closed<u64> {
+        close_back_word(free, stops, s)
+    }
 }

@@ -1,52 +1,43 @@
-// Rows of bits: sets of positions as words, one row after the other.
+// Rows of bits: sets of positions, one for each element; and a shape laid out, one struct for each block.
 
 #![tactic(auto)]
 
-ghost use Rattle.std.specs.Prelude.{◌≡◌, ◌<◌, replicate};
-ghost use Rattle.sets.specs.Set.{set_of};
-ghost use Rattle.rows.specs.Row.{row_count, layout_size, table_size, row_in, PutRow};
+ghost use Rattle.std.specs.Prelude.{◌≡◌, replicate};
+ghost use Rattle.rows.specs.Row.{no_set, no_laid};
 
 use sets::Set;
 
-// The words of a row.
-pub const SIZE: usize = 4;
-
-// Row j.
-pub fn row_at(rows: &[u64], j: usize) -> Set
-    requires { j < row_count rows.now }
-    ensures { set_of result ≡ row_in rows.now j }
-{
-    let at = j * SIZE;
-    Set {
-        a: rows[at],
-        b: rows[at + 1],
-        c: rows[at + 2],
-        d: rows[at + 3],
-    }
+// A block laid out in a row: the positions at which its run may end, where it then is, and all the block's positions.
+#[derive(Clone, Copy)]
+pub struct LaidBlock {
+    pub zone: Set,
+    pub end: Set,
+    pub slot: Set,
 }
 
-// Sets row j.
-pub fn put_row(rows: &mut [u64], j: usize, s: Set)
-    requires { j < row_count rows.old }
-    ensures { PutRow rows.old j (set_of s) rows.new }
+const NO_SET: Set = Set {
+    a: 0,
+    b: 0,
+    c: 0,
+    d: 0,
+};
+
+const NO_LAID: LaidBlock = LaidBlock {
+    zone: NO_SET,
+    end: NO_SET,
+    slot: NO_SET,
+};
+
+// Room for N rows: no position in any.
+pub fn blank<const N: usize>() -> [Set; N]
+    ensures { result ≡ replicate N no_set }
 {
-    let at = j * SIZE;
-    rows[at] = s.a;
-    rows[at + 1] = s.b;
-    rows[at + 2] = s.c;
-    rows[at + 3] = s.d;
+    [NO_SET; N]
 }
 
-// No rows yet: room for those of 32 blocks.
-pub fn blank() -> [u64; 32 * SIZE]
-    ensures { result ≡ replicate layout_size 0 }
+// Room for a layout of N blocks.
+pub fn blank_layout<const N: usize>() -> [LaidBlock; N]
+    ensures { result ≡ replicate N no_laid }
 {
-    [0u64; 32 * SIZE]
-}
-
-// No rows yet: room for those of 251 positions.
-pub fn blank_table() -> [u64; 251 * SIZE]
-    ensures { result ≡ replicate table_size 0 }
-{
-    [0u64; 251 * SIZE]
+    [NO_LAID; N]
 }

@@ -5,6 +5,7 @@
 ghost use Rattle.std.specs.Prelude.{◌≡◌, ◌<◌};
 ghost use Rattle.rules.specs.Rule.{rule_at, rule_count};
 
+// The four numbers as they are lent (document 01), whether right or not: so the kind is no enum.
 #[derive(Clone, Copy)]
 pub struct Rule {
     pub kind: u64,
@@ -24,7 +25,8 @@ pub const BLOCKS: usize = 256;
 pub const RULES: usize = 16;
 
 // The kinds: equal once trailing blanks are dropped, at most, before, equal to the letter, equal but for letter case; a
-// join is the one that names three texts.
+// join is the one that names three texts. They are numbers because rules are lent as numbers (document 01); what the
+// code goes by is `kinds::Relation`.
 pub const PADDED: u64 = 0;
 
 pub const AT_MOST: u64 = 1;

@@ -34,16 +34,12 @@ pub fn word(s: Set, k: usize) -> u64
     requires { k < 4 }
     ensures { result ≡ set_of s / 2 ^ (k * 64) % 2 ^ 64 }
 {
-    if k == 0 {
-        return s.a;
+    match k {
+        0 => s.a,
+        1 => s.b,
+        2 => s.c,
+        _ => s.d,
     }
-    if k == 1 {
-        return s.b;
-    }
-    if k == 2 {
-        return s.c;
-    }
-    s.d
 }
 
 // The words of a set one up, over a new first word; the last word is lost.
@@ -94,12 +90,12 @@ fn ones(k: usize, w: usize) -> u64
         return 0;
     }
     if w + 64 <= k {
-        return 18446744073709551615;
+        return u64::MAX;
     }
     (1u64 << (k - w)) - 1
 }
 
-// The numbers below k.
+// The numbers below k. A function over both kinds of word, this and that of `single`, would hide which is which.
 pub fn below(k: usize) -> Set
     requires { k ≤ 256 }
     ensures { Exactly (set_of result) (λ e. e < k) }
@@ -200,16 +196,7 @@ pub fn has(s: Set, q: usize) -> bool
     requires { q < 256 }
     ensures { Tells result (Holds (set_of s) q) }
 {
-    if q < 64 {
-        return (s.a >> q) % 2 == 1;
-    }
-    if q < 128 {
-        return (s.b >> (q - 64)) % 2 == 1;
-    }
-    if q < 192 {
-        return (s.c >> (q - 128)) % 2 == 1;
-    }
-    (s.d >> (q - 192)) % 2 == 1
+    (word(s, q / 64) >> (q % 64)) % 2 == 1
 }
 
 // Whether it has the character.
@@ -224,7 +211,7 @@ fn lowest(w: u64) -> usize
     requires { w ≡ 0 → ⊥ }
     ensures { Least w result × (result < 64) }
 {
-    u64::trailing_zeros(w) as usize
+    w.trailing_zeros() as usize
 }
 
 // The least number of a set that is not empty.
@@ -249,7 +236,7 @@ pub fn highest(w: u64) -> usize
     requires { w ≡ 0 → ⊥ }
     ensures { Greatest w result × (result < 64) }
 {
-    63 - u64::leading_zeros(w) as usize
+    63 - w.leading_zeros() as usize
 }
 
 // The greatest number of a set that is not empty.

@@ -9,7 +9,7 @@ ghost use Rattle.shapes.specs.Wrong.{Disagree, BlockChecked};
 ghost use Rattle.shapes.specs.Lent.{meant, shape_of, BlocksChecked, ShapeChecked};
 ghost use Rattle.shapes.specs.Code.{EachChecked};
 
-use answers::{Checked, Refusal};
+use answers::Refusal;
 use shapes::Block;
 
 // Whether base and upper disagree.
@@ -23,68 +23,51 @@ fn disagree(b: Block) -> bool
 }
 
 // Refusals 2, 10 and 11 of block number `place`. The numbers may be any.
-fn check_block(b: Block, number: u64, place: u64) -> Checked
+fn check_block(b: Block, number: u64, place: u64) -> Result<(), Refusal>
     ensures { BlockChecked number place (meant b) result }
 {
     if b.upper < b.lower {
-        return Checked::Refused(Refusal::Crossed(number, place));
+        return Err(Refusal::Crossed(number, place));
     }
     if 250 < b.upper {
-        return Checked::Refused(Refusal::TooLarge(number, place));
+        return Err(Refusal::TooLarge(number, place));
     }
     if disagree(b) {
-        return Checked::Refused(Refusal::Disagree(number, place));
+        return Err(Refusal::Disagree(number, place));
     }
-    Checked::Sound
+    Ok(())
 }
 
 // The refusal of the first block that has one.
-fn check_each(shape: &[u64], number: u64) -> Checked
+fn check_each(shape: &[u64], number: u64) -> Result<(), Refusal>
     ensures { EachChecked number (shape_of shape.now) result }
 {
-    let n = shape.len() / shapes::SIZE;
-    let mut i = 0;
-    while i < n {
+    for i in 0..shape.len() / shapes::SIZE {
         let block = shapes::block_at(shape, i);
-        match check_block(block, number, i as u64 + 1) {
-            Checked::Refused(r) => return Checked::Refused(r),
-            Checked::Sound => {
-                i += 1;
-            }
-        }
+        check_block(block, number, i as u64 + 1)?;
     }
-    Checked::Sound
+    Ok(())
 }
 
 // Refusals 2, 10, 11 and 3 of the blocks of shape number `number`.
-pub fn check_blocks(shape: &[u64], number: u64) -> Checked
+pub fn check_blocks(shape: &[u64], number: u64) -> Result<(), Refusal>
     requires { block_count shape.now ≤ 32 }
     ensures { BlocksChecked number (shape_of shape.now) result }
 {
-    match check_each(shape, number) {
-        Checked::Refused(r) => Checked::Refused(r),
-        Checked::Sound => {
-            if 250 < shapes::total_upper(shape) {
-                return Checked::Refused(Refusal::Total(number));
-            }
-            Checked::Sound
-        }
+    check_each(shape, number)?;
+    if 250 < shapes::total_upper(shape) {
+        return Err(Refusal::Total(number));
     }
+    Ok(())
 }
 
 // Refusal 1, then those of the blocks, of the numbers lent for shape number `number`.
-pub fn check_lent(shape: &[u64], number: u64) -> Checked
+pub fn check_lent(shape: &[u64], number: u64) -> Result<(), Refusal>
     ensures { ShapeChecked number shape.now result }
 {
     let n = shape.len();
-    if n % shapes::SIZE != 0 {
-        return Checked::Refused(Refusal::Length(number));
-    }
-    if n == 0 {
-        return Checked::Refused(Refusal::Length(number));
-    }
-    if shapes::MOST * shapes::SIZE < n {
-        return Checked::Refused(Refusal::Length(number));
+    if n % shapes::SIZE != 0 || n == 0 || shapes::MOST * shapes::SIZE < n {
+        return Err(Refusal::Length(number));
     }
     check_blocks(shape, number)
 }

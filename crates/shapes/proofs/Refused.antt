@@ -9,7 +9,8 @@ use lib.ListN.{length, get_or}
 use Rattle.answers.specs.Told.{Told, tell}
 use Rattle.answers.specs.Turns.{here, later, in_turn, need}
 use Rattle.answers.proofs.Turns.{OneOf, EachOne, need_one, in_turn_one, then_checked, due_tells, need_tells, forbid_tells}
-use Rattle.answers.specs.declared.Checked.{Checked}
+use Rattle.std.specs.Prelude.{Result}
+use Rattle.answers.specs.declared.Refusal.{Refusal}
 use Rattle.plain.specs.All.{All}
 use Rattle.shapes.specs.Shape.{Block, Sound, no_block, total}
 use Rattle.shapes.specs.Wrong.{block_turns, of_block, BlockRefused}
@@ -19,7 +20,7 @@ use Rattle.answers.proofs.FirstBad.{one_by_one_lem}
 use Rattle.shapes.proofs.Wrong.{of_block_lem}
 
 -- numbers of the right length are checked as their blocks are
-pub blocks_then : (n : ℕ) (xs : List ℕ) (r : Checked) → RightLength xs → BlocksChecked n (shape_of xs) r → ShapeChecked n xs r
+pub blocks_then : (n : ℕ) (xs : List ℕ) (r : Result Unit Refusal) → RightLength xs → BlocksChecked n (shape_of xs) r → ShapeChecked n xs r
 blocks_then n xs r h p = then_checked (need (RightLength xs) (tell 1 n 0)) (blocks_turns n (shape_of xs)) r h (λ (g, l). record { right = h; sound = g; short = l }) p
 
 -- ---- one answer

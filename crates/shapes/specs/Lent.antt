@@ -1,9 +1,9 @@
 -- Document 01, "Shapes and fillings" and "Numbers given back": which shape some lent 64-bit numbers are, and why they
 -- are refused (document 02, order 1).
-use Rattle.std.specs.Prelude.{◌≡◌, List, [], ◌∷◌, ◌++◌, map, ℕ, ◌+◌, ◌/◌, ◌%◌, ◌≤◌, length, get_or, take}
+use Rattle.std.specs.Prelude.{◌≡◌, List, [], ◌∷◌, ◌++◌, map, ℕ, ◌+◌, ◌/◌, ◌%◌, ◌≤◌, length, get_or, take, Result}
 use Rattle.answers.specs.Told.{Told, tell}
 use Rattle.answers.specs.Turns.{Turn, FirstDue, in_turn, TurnChecked, need}
-use Rattle.answers.specs.declared.Checked.{Checked}
+use Rattle.answers.specs.declared.Refusal.{Refusal}
 use Rattle.plain.specs.All.{All}
 use Rattle.plain.specs.Items.{item_at, items_of, join_items}
 use Rattle.bases.specs.Base.{Word, base_of, words_in, base_words}
@@ -89,8 +89,8 @@ pub record Whole (xs : List ℕ) : Type 0 where
   pub short : total (shape_of xs) ≤ 250
 
 -- What the check of some blocks, and of some lent numbers, answers: sound, or the one refusal that is due.
-abbrev pub BlocksChecked : ℕ → List Block → Checked → Type 0
+abbrev pub BlocksChecked : ℕ → List Block → Result Unit Refusal → Type 0
 BlocksChecked n s = TurnChecked (in_turn (All Sound s × (total s ≤ 250)) (blocks_turns n s))
 
-abbrev pub ShapeChecked : ℕ → List ℕ → Checked → Type 0
+abbrev pub ShapeChecked : ℕ → List ℕ → Result Unit Refusal → Type 0
 ShapeChecked n xs = TurnChecked (of_shape n xs)

@@ -1,8 +1,8 @@
 -- Document 02, order 1: what can be wrong with a block, and the refusal that is due of one that is not sound.
-use Rattle.std.specs.Prelude.{◌≡◌, List, [], ◌∷◌, ℕ, ◌<◌}
+use Rattle.std.specs.Prelude.{◌≡◌, List, [], ◌∷◌, ℕ, ◌<◌, Result}
 use Rattle.answers.specs.Told.{Told, tell}
 use Rattle.answers.specs.Turns.{Turn, FirstDue, in_turn, TurnChecked, forbid}
-use Rattle.answers.specs.declared.Checked.{Checked}
+use Rattle.answers.specs.declared.Refusal.{Refusal}
 use Rattle.bases.specs.Base.{Empty}
 use Rattle.shapes.specs.Shape.{Block, Sound}
 
@@ -30,5 +30,5 @@ abbrev pub BlockRefused : ℕ → ℕ → Block → Told → Type 0
 BlockRefused n i b = FirstDue (block_turns n i b)
 
 -- What the check of a block answers: sound, or the one refusal that is due.
-abbrev pub BlockChecked : ℕ → ℕ → Block → Checked → Type 0
+abbrev pub BlockChecked : ℕ → ℕ → Block → Result Unit Refusal → Type 0
 BlockChecked n i b = TurnChecked (of_block n i b)

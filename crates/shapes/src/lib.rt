@@ -8,7 +8,8 @@ ghost use Rattle.shapes.specs.Lent.{meant, block_at, shape_of, Put};
 
 use sets::Set;
 
-// The numbers of a block: four words of its base, lower and upper.
+// The numbers of a block: four words of its base, lower and upper. Document 01 lends a shape as such numbers, so a shape
+// is no slice of blocks.
 pub const SIZE: usize = 6;
 
 // The blocks that a shape may have.
@@ -63,11 +64,8 @@ pub fn total_upper(shape: &[u64]) -> u64
 {
     let n = shape.len() / SIZE;
     let mut sum = 0;
-    let mut i = 0;
-    while i < n {
-        let b = block_at(shape, i);
-        sum += b.upper;
-        i += 1;
+    for i in 0..n {
+        sum += block_at(shape, i).upper;
     }
     sum
 }

@@ -11,49 +11,36 @@ ghost use Rattle.streams.specs.Within.{ReadInto, ReadMore};
 
 use std::io::{Read, Stdin};
 
-// What the input gave: its bytes, up to what there is room for, or a read that failed.
-#[derive(Clone, Copy)]
-pub enum Input {
-    Bytes(usize),
-    Failed,
-}
-
-// Reads on until a read gives no more bytes or the buffer is full.
-pub fn read_input(stdin: Stdin, buffer: &mut [u8]) -> Input
+// Reads on until a read gives no more bytes or the buffer is full: how many bytes the input gave, or none where a read
+// failed. How often the loop turns depends on the input, and no index counts it.
+pub fn read_input(stdin: Stdin, buffer: &mut [u8]) -> Option<usize>
     ensures { ReadInto buffer.new result }
 {
     let mut done = 0;
     while done < buffer.len() {
-        let Input::Bytes(n) = read_more(stdin, buffer, done) else {
-            return Input::Failed;
-        };
+        let n = read_more(stdin, buffer, done)?;
         if n == done {
-            return Input::Bytes(n);
+            return Some(n);
         }
         done = n;
     }
-    Input::Bytes(done)
+    Some(done)
 }
 
 // One read more, behind the bytes that were read so far, which stay.
-fn read_more(stdin: Stdin, buffer: &mut [u8], done: usize) -> Input
+fn read_more(stdin: Stdin, buffer: &mut [u8], done: usize) -> Option<usize>
     requires { done ≤ length buffer.old }
     ensures { ReadMore buffer.old done buffer.new result }
 {
-    let Input::Bytes(more) = read_some(stdin, &mut buffer[done..]) else {
-        return Input::Failed;
-    };
-    Input::Bytes(done + more)
+    let more = read_some(stdin, &mut buffer[done..])?;
+    Some(done + more)
 }
 
 // One read. It gives no bytes at the end of the input.
-fn read_some(mut stdin: Stdin, buffer: &mut [u8]) -> Input
+fn read_some(mut stdin: Stdin, buffer: &mut [u8]) -> Option<usize>
     ensures { ReadInto buffer.new result }
 {
-    match stdin.read(buffer) {
-        Ok(n) => Input::Bytes(n),
-        Err(_) => Input::Failed,
-    }
+    stdin.read(buffer).ok()
 }
 
 // All of a report, to the standard output; the complaint if that fails.

@@ -15,13 +15,13 @@ fn pushed(start: Place, i: BlockNumber, o: Offset, left: u64, looks: u64) -> Pus
     ensures { result ≡ record { start = start; end = record { block = i; offset = o }; left = left; looks = looks } }
 {
     Pushed {
-        start: start,
+        start,
         end: Place {
             block: i,
             offset: o,
         },
-        left: left,
-        looks: looks,
+        left,
+        looks,
     }
 }
 
@@ -37,6 +37,7 @@ pub fn push(s: Block, y: &[u64], from: Place) -> Pushed
     let mut i = from.block;
     let mut o = from.offset;
     let mut looks: u64 = 0;
+    // The block's number is part of the place reached, so it outlives the loop: no `for` counts it.
     while i.0 <= m {
         if k == 0 {
             return pushed(start, i, o, k, looks);
@@ -74,6 +75,7 @@ pub fn stretch(s: Block, y: &[u64], from: Place) -> Stretched
     let mut i = from.block;
     let mut o = from.offset;
     let mut looks: u64 = 0;
+    // As in push, the block's number outlives the loop.
     while i.0 <= m {
         let look = sweep_looks::stretch_look(
             s,
@@ -89,7 +91,7 @@ pub fn stretch(s: Block, y: &[u64], from: Place) -> Stretched
                         block: i,
                         offset: e,
                     },
-                    looks: looks,
+                    looks,
                 };
             }
             StretchLook::GoesOn(left) => {
@@ -104,6 +106,6 @@ pub fn stretch(s: Block, y: &[u64], from: Place) -> Stretched
             block: i,
             offset: o,
         },
-        looks: looks,
+        looks,
     }
 }

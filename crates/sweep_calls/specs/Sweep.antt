@@ -1,10 +1,10 @@
 -- Document 01, "The quick sweep": what the call promises. Lent: two shapes xs and ys, an output; out' is the output as
 -- handed back.
-use Rattle.std.specs.Prelude.{◌≡◌, List, [], ◌∷◌, ℕ, ◌*◌, ◌≤◌, length}
+use Rattle.std.specs.Prelude.{◌≡◌, List, [], ◌∷◌, ℕ, ◌*◌, ◌≤◌, length, Result, Ok, Err}
 use Rattle.answers.specs.Told.{Told, tell, told}
 use Rattle.answers.specs.Turns.{Turn, FirstDue, need}
+use Rattle.answers.specs.declared.Refusal.{Refusal}
 use Rattle.answers.specs.declared.Swept.{Swept}
-use Rattle.answers.specs.declared.Swept.TheVariants.{Places, Cannot, Refused}
 use Rattle.shapes.specs.Lent.{shape_of}
 use Rattle.pairs.specs.Pair.{PairAccepted, of_pair}
 use Rattle.sweep_steps.specs.Steps.{sweep_of}
@@ -27,7 +27,6 @@ pub record SweepDone (xs ys out out' : List ℕ) (r : Swept) : Type 0 where
   pub output : out' ≡ output_of (sweep_of (shape_of xs) (shape_of ys)) out
   pub meaning : Means (shape_of xs) (shape_of ys) r out'
 
-abbrev pub SweepPromise : List ℕ → List ℕ → List ℕ → List ℕ → Swept → Type 0
-SweepPromise xs ys out out' (Places k) = SweepDone xs ys out out' (Places k)
-SweepPromise xs ys out out' (Cannot k) = SweepDone xs ys out out' (Cannot k)
-SweepPromise xs ys out out' (Refused r) = SweepRefused xs ys (length out) (told r) × (out' ≡ out)
+abbrev pub SweepPromise : List ℕ → List ℕ → List ℕ → List ℕ → Result Swept Refusal → Type 0
+SweepPromise xs ys out out' (Ok s) = SweepDone xs ys out out' s
+SweepPromise xs ys out out' (Err r) = SweepRefused xs ys (length out) (told r) × (out' ≡ out)

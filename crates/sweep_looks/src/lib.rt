@@ -14,7 +14,7 @@ pub fn push_look(s: Block, t: Block, o: Offset, k: u64) -> PushLook
     ensures { result ≡ push_look (meant s) (meant t) o.0 k }
 {
     if sets::meets(s.base, t.base) {
-        let room = sweep_places::minus(t.upper, o.0);
+        let room = t.upper.saturating_sub(o.0);
         if k <= room {
             return PushLook::Ends(Offset(o.0 + k));
         }

@@ -4,7 +4,7 @@ use mathlib.Core.List.{List, [], ◌∷◌, ◌++◌, append_assoc, append-nil, 
 use Prim.Native.Nat.{ℕ, suc, ◌+◌, ◌-◌, ◌*◌, ◌≤◌, ◌<◌}
 use native.Mathlib.Omega.{arith}
 use lib.ListN.{length, get_or, take, drop, set, drop_of_length-le, length-drop, length-reverse, length-set, take-append-drop}
-use lib.Seq.{drop-cons, get_or-drop, drop-drop, get_or-set_same, get_or-set_other, drop-set-lt, take-suc-set, set_at, take-suc, length-take-le}
+use lib.Seq.{drop-cons, get_or-drop, drop-drop, get_or-set_same, get_or-set_other, drop-set-lt, take-suc-set}
 use borrow.Author.Tests.{eq-eqb, ne_eqb}
 use Rattle.shapes.specs.Shape.{Block, no_block}
 use Rattle.sweep_steps.specs.Places.{at, number_of, offset_of, nth, later, forward}
@@ -258,12 +258,3 @@ module _ (x y : List Block) (kept₀ : List ℕ) where
           sym (ap₂ places (append-nil k.found) plain) ∙ sym (ap (λ (t : List Block). found_all_places k.found looks (pushes y (held_in t (drop (i * 2) kept₀)) end)) none) ∙ k.same,
           sym (take-append-drop (i * 2) kept) ∙ ap₂ {C = List ℕ} (λ (a c : List ℕ). a ++ c) k.written k.rest,
         )
-
--- ---- copying
-
-pub copied : (from to₀ to : List ℕ) (i : ℕ) → i < length from → i < length to₀ → to ≡ take i from ++ drop i to₀ → set to i (get_or from i 0) ≡ take (i + 1) from ++ drop (i + 1) to₀
-copied from to₀ to i h g e =
-    let one : i + 1 ≡ suc i = omega arith in
-    ap (λ (l : List ℕ). set l i (get_or from i 0)) (e ∙ ap (λ (l : List ℕ). take i from ++ l) (drop-cons to₀ i 0 g))
-    ∙ set_at (take i from) (get_or to₀ i 0) (drop (suc i) to₀) (get_or from i 0) i (length-take-le i from (omega arith))
-    ∙ sym (ap₂ {C = List ℕ} (λ (a b : List ℕ). a ++ b) (ap (λ (n : ℕ). take n from) one ∙ take-suc from i 0 h) (ap (λ (n : ℕ). drop n to₀) one) ∙ append_assoc (take i from) (get_or from i 0 ∷ []) (drop (suc i) to₀))

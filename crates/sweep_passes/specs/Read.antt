@@ -4,18 +4,13 @@ use Rattle.answers.specs.declared.Swept.{Swept}
 use Rattle.shapes.specs.Shape.{Block}
 use Rattle.sweep_steps.specs.Places.{at}
 use Rattle.sweep_steps.specs.Steps.{Held, Found, places, cannot, numbers}
-use Rattle.sweep_passes.specs.declared.Passed.{Passed}
 
 -- the blocks of a shape, each with the place that stands for it
 unfoldable pub held_in : List Block → List ℕ → List Held
 held_in [] l = []
 held_in (b ∷ x) l = record { block = b; place = at (get_or l 0 0) (get_or l 1 0) } ∷ held_in x (drop 2 l)
 
-abbrev pub passed : Found → Passed
-passed (places ps k) = Passed.Through k
-passed (cannot k) = Passed.Stuck k
-
--- the answer handed back
+-- the answer handed back, of one pass or of both
 abbrev pub swept_of : Found → Swept
 swept_of (places ps k) = Swept.Places k
 swept_of (cannot k) = Swept.Cannot k

@@ -2,7 +2,7 @@
 
 #![tactic(auto)]
 
-ghost use Rattle.std.specs.Prelude.{◌≡◌, ◌-◌, ◌≤◌};
+ghost use Rattle.std.specs.Prelude.{◌≡◌, ◌≤◌};
 ghost use Rattle.shapes.specs.Lent.{meant, shape_of};
 ghost use Rattle.sweep_steps.specs.Places.{number_of, nth};
 ghost use Rattle.sweep_steps.specs.Places;
@@ -10,16 +10,6 @@ ghost use Rattle.shapes.specs.Shape.{block_count};
 
 use shapes::Block;
 use sweep_steps::{BlockNumber, Offset, Place};
-
-// a - b, and 0 where b is more.
-pub fn minus(a: u64, b: u64) -> u64
-    ensures { result ≡ a - b }
-{
-    if a < b {
-        return 0;
-    }
-    a - b
-}
 
 // Block number i of a shape, from 1.
 pub fn block(s: &[u64], i: BlockNumber) -> Block
@@ -37,36 +27,23 @@ pub fn forward(y: &[u64], p: Place) -> Place
 {
     let m = (y.len() / shapes::SIZE) as u64;
     let j = p.block;
-    let k = p.offset;
     if m < j.0 {
-        return Place {
-            block: BlockNumber(1),
-            offset: Offset(0),
-        };
+        return sweep_steps::START;
     }
     let i = BlockNumber(m + 1 - j.0);
     let t = block(y, i);
     Place {
         block: i,
-        offset: Offset(minus(t.lower, k.0)),
+        offset: Offset(t.lower.saturating_sub(p.offset.0)),
     }
 }
 
-// The later of two places: by block, then by offset.
+// The later of two places: by block, then by offset. Written out, since of equal places `max` says only that they
+// compare alike.
 pub fn later(p: Place, q: Place) -> Place
     ensures { result ≡ Places.later p q }
 {
-    let i = p.block;
-    let j = q.block;
-    if i.0 == j.0 {
-        let o = p.offset;
-        let k = q.offset;
-        if o.0 < k.0 {
-            return q;
-        }
-        return p;
-    }
-    if i.0 < j.0 {
+    if p < q {
         return q;
     }
     p

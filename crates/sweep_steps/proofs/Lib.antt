@@ -9,3 +9,4 @@ pub mod Turned
 pub mod Sound
 pub mod Named
 pub mod Sweep
+pub mod Order

@@ -4,19 +4,26 @@
 #![tactic(auto)]
 
 // A block's number, from 1.
-#[derive(Clone, Copy)]
+#[derive(Clone, Copy, PartialEq, Eq, PartialOrd, Ord)]
 pub struct BlockNumber(pub u64);
 
 // An offset within a block, from 0.
-#[derive(Clone, Copy)]
+#[derive(Clone, Copy, PartialEq, Eq, PartialOrd, Ord)]
 pub struct Offset(pub u64);
 
-// A place in a shape of m blocks; past the end is block m + 1 at offset 0.
-#[derive(Clone, Copy)]
+// A place in a shape of m blocks; past the end is block m + 1 at offset 0. Places are in order by block, then by
+// offset.
+#[derive(Clone, Copy, PartialEq, Eq, PartialOrd, Ord)]
 pub struct Place {
     pub block: BlockNumber,
     pub offset: Offset,
 }
+
+// Where a shape begins.
+pub const START: Place = Place {
+    block: BlockNumber(1),
+    offset: Offset(0),
+};
 
 // What push does after a look at a block: end at this offset in it, restart behind it with the full lower again, or go
 // on behind it with this k.

@@ -5,9 +5,8 @@ use mathlib.Core.List.{List, [], ◌∷◌, ◌++◌}
 use Prim.Native.Nat.{ℕ, suc, ◌+◌, ◌*◌, ◌≤◌}
 use native.Mathlib.Omega.{arith}
 use lib.ListN.{length, get_or, take, drop}
-use lib.Seq.{take_at, length-take-le}
+use lib.Seq.{take_at}
 use borrow.Author.Tests.{eq-eqb, ne_eqb}
-use Rattle.answers.specs.declared.Refusal.{Refusal}
 use Rattle.answers.specs.declared.Swept.{Swept}
 use Rattle.shapes.specs.Shape.{Block}
 use Rattle.sweep_steps.specs.Places.{at, is_start}
@@ -15,8 +14,7 @@ use Rattle.sweep_steps.specs.Steps.{Held, stretches, Found, places, cannot, look
 use Rattle.sweep_steps.specs.declared.Place.{Place}
 use Rattle.sweep_steps.proofs.Looks.{looks_bounded}
 use Rattle.sweep_steps.proofs.Sweep.{places_held}
-use Rattle.sweep_passes.specs.declared.Passed.{Passed}
-use Rattle.sweep_passes.specs.Read.{held_in, passed, swept_of, output_of}
+use Rattle.sweep_passes.specs.Read.{held_in, swept_of}
 use Rattle.sweeps.specs.Kept.{Starts}
 
 held_first : (x : List Block) (kept : List ℕ) → 1 ≤ length x → first_place (held_in x kept) ≡ at (get_or kept 0 0) (get_or kept 1 0)
@@ -41,21 +39,6 @@ found_none l n kept f e = (ap swept_of e, record { stand = λ qs k h. absurd (no
     not_places : {qs : List Place} {k : ℕ} → cannot l ≡ places qs k → ⊥
     not_places e = let z : ◌≡◌ {A = ℕ} 0 1 = cc in omega arith
 
--- the output, from what both passes hand back: the places are copied, and else it stays
-pub copied : (f : Found) (k n : ℕ) (kept out : List ℕ) → Swept.Places k ≡ swept_of f → n ≤ length kept → Starts f n kept → take n kept ++ drop n out ≡ output_of f out
-copied (places qs l) k n kept out e room starts =
-    let front = starts.stand qs l refl in
-    ap₂ {C = List ℕ} (λ (a : List ℕ) (m : ℕ). a ++ drop m out) front (sym (length-take-le n kept room) ∙ ap length front)
-copied (cannot l) k n kept out e room starts = absurd (let z : ◌≡◌ {A = ℕ} 0 1 = cc in omega arith)
-
-pub stays : (f : Found) (k : ℕ) (out : List ℕ) → Swept.Cannot k ≡ swept_of f → out ≡ output_of f out
-stays (places qs l) k out e = absurd (let z : ◌≡◌ {A = ℕ} 0 1 = cc in omega arith)
-stays (cannot l) k out e = refl
-
-pub not_refused : (f : Found) {r : Refusal} → Swept.Refused r ≡ swept_of f → ⊥
-not_refused (places qs k) e = let z : ◌≡◌ {A = ℕ} 0 1 = cc in omega arith
-not_refused (cannot k) e = let z : ◌≡◌ {A = ℕ} 0 1 = cc in omega arith
-
 module _ (x y : List Block) (kept : List ℕ) (looks : ℕ) (some : 1 ≤ length x) (few : length x ≤ 32) (low : length y ≤ 32)
     (counted : looks ≡ (stretches x y).looks) (held : held_in x kept ≡ (stretches x y).held) where
   first : first_place (stretches x y).held ≡ at (get_or kept 0 0) (get_or kept 1 0)
@@ -79,32 +62,32 @@ module _ (x y : List Block) (kept : List ℕ) (looks : ℕ) (some : 1 ≤ length
         let e : is_start (at (get_or kept 0 0) (get_or kept 1 0)) ≡ true = simp (eq-eqb (get_or kept 0 0) 1 b, eq-eqb (get_or kept 1 0) 0 o) in
         simp (first, e) (ap₂ (λ (l : ℕ) (h : List Held). looked l (pushes y h (at 1 0))) counted held)
 
-    module _ (p : Passed) (ep : p ≡ passed (pushes y (held_in x kept) (at 1 0))) (more : ℕ) where
-      pub swept_stuck : p ≡ Passed.Stuck more → cannot (looks + more) ≡ sweep_of x y
+    module _ (p : Swept) (ep : p ≡ swept_of (pushes y (held_in x kept) (at 1 0))) (more : ℕ) where
+      pub swept_stuck : p ≡ Swept.Cannot more → cannot (looks + more) ≡ sweep_of x y
       swept_stuck e = go (pushes y (held_in x kept) (at 1 0)) (sym ep ∙ e) on_start
         where
-          go : (r : Found) → passed r ≡ Passed.Stuck more → looked looks r ≡ sweep_of x y → cannot (looks + more) ≡ sweep_of x y
+          go : (r : Found) → swept_of r ≡ Swept.Cannot more → looked looks r ≡ sweep_of x y → cannot (looks + more) ≡ sweep_of x y
           go (places qs l) e f = absurd (let z : ◌≡◌ {A = ℕ} 0 1 = cc in omega arith)
           go (cannot l) e f = let z : l ≡ more = cc in subst (λ (m : ℕ). cannot (looks + m) ≡ sweep_of x y) z f
 
-      pub swept_through : p ≡ Passed.Through more → (qs : List Place) × (pushes y (held_in x kept) (at 1 0) ≡ places qs more) × (places qs (looks + more) ≡ sweep_of x y)
+      pub swept_through : p ≡ Swept.Places more → (qs : List Place) × (pushes y (held_in x kept) (at 1 0) ≡ places qs more) × (places qs (looks + more) ≡ sweep_of x y)
       swept_through e = go (pushes y (held_in x kept) (at 1 0)) refl (sym ep ∙ e) on_start
         where
-          go : (r : Found) → pushes y (held_in x kept) (at 1 0) ≡ r → passed r ≡ Passed.Through more → looked looks r ≡ sweep_of x y
+          go : (r : Found) → pushes y (held_in x kept) (at 1 0) ≡ r → swept_of r ≡ Swept.Places more → looked looks r ≡ sweep_of x y
               → (qs : List Place) × (pushes y (held_in x kept) (at 1 0) ≡ places qs more) × (places qs (looks + more) ≡ sweep_of x y)
           go (places qs l) h e f = let z : l ≡ more = cc in (qs, h ∙ ap (places qs) z, subst (λ (m : ℕ). places qs (looks + m) ≡ sweep_of x y) z f)
           go (cannot l) h e f = absurd (let z : ◌≡◌ {A = ℕ} 0 1 = cc in omega arith)
 
-      pub stuck_fits : p ≡ Passed.Stuck more → looks + more ≤ 128
+      pub stuck_fits : p ≡ Swept.Cannot more → looks + more ≤ 128
       stuck_fits e = let h : looks + more ≤ 2 * (length x + length y) = subst (λ (r : Found). looks_of r ≤ 2 * (length x + length y)) (sym (swept_stuck e)) (looks_bounded x y) in omega arith
 
-      pub through_fits : p ≡ Passed.Through more → looks + more ≤ 128
+      pub through_fits : p ≡ Swept.Places more → looks + more ≤ 128
       through_fits e =
           let h : looks + more ≤ 2 * (length x + length y) = subst (λ (r : Found). looks_of r ≤ 2 * (length x + length y)) (sym (swept_through e).2) (looks_bounded x y) in
           omega arith
 
       -- the places stand where they were kept
-      pub swept_places : (e : p ≡ Passed.Through more) (kept' : List ℕ) (n : ℕ) → n ≡ length x
+      pub swept_places : (e : p ≡ Swept.Places more) (kept' : List ℕ) (n : ℕ) → n ≡ length x
           → ((qs : List Place) (l : ℕ) → pushes y (held_in x kept) (at 1 0) ≡ places qs l → kept' ≡ numbers qs ++ drop (2 * n) kept)
           → (Swept.Places (looks + more) ≡ swept_of (sweep_of x y)) × Starts (sweep_of x y) (2 * n) kept'
       swept_places e kept' n en starts =

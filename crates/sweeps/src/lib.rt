@@ -2,7 +2,7 @@
 
 #![tactic(auto)]
 
-ghost use Rattle.std.specs.Prelude.{◌≡◌, ◌++◌, ◌*◌, ◌/◌, ◌≤◌, length, take, drop};
+ghost use Rattle.std.specs.Prelude.{◌≡◌, ◌*◌, ◌/◌, ◌≤◌, length};
 ghost use Rattle.shapes.specs.Lent.{shape_of, RightLength};
 ghost use Rattle.shapes.specs.Shape.{block_count};
 ghost use Rattle.sweep_steps.specs.Steps.{sweep_of};
@@ -10,19 +10,6 @@ ghost use Rattle.sweep_passes.specs.Read.{swept_of, output_of};
 ghost use Rattle.sweeps.specs.Kept.{Starts};
 
 use answers::Swept;
-use sweep_passes::Passed;
-
-// Copy the first n numbers.
-fn copy(from: &[u64], to: &mut [u64], n: usize)
-    requires { (n ≤ length from.now) × (n ≤ length to.old) }
-    ensures { to.new ≡ take n from.now ++ drop n to.old }
-{
-    let mut i: usize = 0;
-    while i < n {
-        to[i] = from[i];
-        i += 1;
-    }
-}
 
 // Both passes, over 64 numbers lent for the places, two for each block of x, which are there afterwards where there are
 // places; of two accepted shapes.
@@ -32,17 +19,13 @@ pub fn sweep_kept(x: &[u64], y: &[u64], kept: &mut [u64]) -> Swept
     ensures starts { Starts (sweep_of (shape_of x.now) (shape_of y.now)) (2 * (block_count x.now)) kept.new }
 {
     let s = sweep_passes::stretch_all(x, y, kept);
-    let looks = s.looks;
-    if kept[0] != 1 {
-        return Swept::Cannot(looks);
-    }
-    if kept[1] != 0 {
-        return Swept::Cannot(looks);
+    if kept[0] != 1 || kept[1] != 0 {
+        return Swept::Cannot(s.looks);
     }
     let p = sweep_passes::push_all(x, y, kept);
     match p {
-        Passed::Stuck(more) => Swept::Cannot(looks + more),
-        Passed::Through(more) => Swept::Places(looks + more),
+        Swept::Cannot(more) => Swept::Cannot(s.looks + more),
+        Swept::Places(more) => Swept::Places(s.looks + more),
     }
 }
 
@@ -53,12 +36,10 @@ pub fn sweep_shapes(x: &[u64], y: &[u64], out: &mut [u64]) -> Swept
     ensures output { out.new ≡ output_of (sweep_of (shape_of x.now) (shape_of y.now)) out.old }
 {
     let mut kept = [0u64; 64];
-    match sweep_kept(x, y, &mut kept) {
-        Swept::Cannot(looks) => Swept::Cannot(looks),
-        Swept::Refused(r) => Swept::Refused(r),
-        Swept::Places(looks) => {
-            copy(&kept, out, x.len() / shapes::SIZE * 2);
-            Swept::Places(looks)
-        }
+    let swept = sweep_kept(x, y, &mut kept);
+    if let Swept::Places(_) = swept {
+        let n = x.len() / shapes::SIZE * 2;
+        out[..n].copy_from_slice(&kept[..n]);
     }
+    swept
 }

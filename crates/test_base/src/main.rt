@@ -13,17 +13,13 @@
 
 mod show;
 
-use answers::Written;
+use answers::Refusal;
 use test_lines::fields::{first_field, later_fields, read_text, read_words, within};
 use test_lines::lines;
 
 fn main() {
     let mut buffer = io::large_buffer();
-    let mut place = lines::start();
-    while 0 < place.left {
-        place = lines::next(&mut buffer, place);
-        case(lines::line(&buffer, place));
-    }
+    lines::each(&mut buffer, case);
 }
 
 fn case(line: &[u8]) {
@@ -83,7 +79,7 @@ fn bound_line(greatest: bool, shape: &[u64], out: &mut [u8]) {
     show::written(answer, out);
 }
 
-fn bound(greatest: bool, shape: &[u64], out: &mut [u8]) -> Written {
+fn bound(greatest: bool, shape: &[u64], out: &mut [u8]) -> Result<usize, Refusal> {
     if greatest {
         return dashed::greatest_text(shape, out);
     }

@@ -10,17 +10,13 @@
 
 #![tactic(auto)]
 
-use answers::{Checked, Ended, Ran, TextRan};
+use answers::{Ended, Ran, TextRan};
 use test_lines::fields::{copy_numbers, first_list, later_lists, read_words, within};
 use test_lines::{lines, show};
 
 fn main() {
     let mut buffer = io::large_buffer();
-    let mut place = lines::start();
-    while 0 < place.left {
-        place = lines::next(&mut buffer, place);
-        case(lines::line(&buffer, place));
-    }
+    lines::each(&mut buffer, case);
 }
 
 fn case(line: &[u8]) {
@@ -66,28 +62,21 @@ fn book_line(counts: &[u64], blocks: &mut [u64], rules: &[u64], work: &mut [u8])
 }
 
 fn ran(answer: Ran) {
-    let checked = answer.checked;
-    let texts = answer.texts;
-    match checked {
-        Checked::Sound => {
+    match answer.checked {
+        Ok(()) => {
             io::write_all(1, b"accepted");
         }
-        Checked::Refused(r) => {
-            show::refused(r);
-        }
+        Err(r) => show::refused(r),
     }
-    let mut k = 0;
-    while k < 8 {
-        text(texts[k]);
-        k += 1;
+    for record in answer.texts {
+        text(record);
     }
 }
 
 fn text(record: TextRan) {
-    let ended = record.ended;
     io::write_all(1, b" ");
     io::print_decimal(1, record.group);
-    match ended {
+    match record.ended {
         Ended::Stable(applications) => {
             io::write_all(1, b" stable ");
             io::print_decimal(1, applications);

@@ -11,17 +11,13 @@
 
 #![tactic(auto)]
 
-use answers::Shown;
+use answers::Refusal;
 use test_lines::fields::{NUMBERS, first_list, later_lists, read_words, within};
 use test_lines::{lines, show};
 
 fn main() {
     let mut buffer = io::large_buffer();
-    let mut place = lines::start();
-    while 0 < place.left {
-        place = lines::next(&mut buffer, place);
-        case(lines::line(&buffer, place));
-    }
+    lines::each(&mut buffer, case);
 }
 
 fn case(line: &[u8]) {
@@ -58,13 +54,13 @@ fn common_line(lists: &[u64], work: &mut [u8], out: &mut [u8]) {
     show::line(b"");
 }
 
-fn shown(answer: Shown, out: &[u8]) {
+fn shown(answer: Result<Option<usize>, Refusal>, out: &[u8]) {
     match answer {
-        Shown::Text(n) => text_shown(n, out),
-        Shown::None => {
+        Ok(Some(n)) => text_shown(n, out),
+        Ok(None) => {
             io::write_all(1, b"none");
         }
-        Shown::Refused(r) => show::refused(r),
+        Err(r) => show::refused(r),
     }
 }
 

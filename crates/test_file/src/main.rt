@@ -8,18 +8,13 @@
 
 #![tactic(auto)]
 
-use answers::Written;
-use test_lines::fields::{find, first_field, later_fields, read_text, read_words, within};
+use test_lines::fields::{first_field, later_fields, read_text, read_words, within};
 use test_lines::{lines, show};
 
 // A line has two digits for each byte of the largest file.
 fn main() {
     let mut buffer = [0u8; 66000];
-    let mut place = lines::start();
-    while 0 < place.left {
-        place = lines::next(&mut buffer, place);
-        case(lines::line(&buffer, place));
-    }
+    lines::each(&mut buffer, case);
 }
 
 fn case(line: &[u8]) {
@@ -45,8 +40,8 @@ fn file_case(rest: &[u8]) {
 
 fn file_line(file: &[u8], report: &mut [u8]) {
     match dashed::run_file(file, report) {
-        Written::Text(n) => report_shown(&report[..n]),
-        Written::Refused(r) => show::refused(r),
+        Ok(n) => report_shown(&report[..n]),
+        Err(r) => show::refused(r),
     }
     show::rest(report, 0x5a);
     show::line(b"");
@@ -61,14 +56,10 @@ fn report_shown(text: &[u8]) {
 
 // Writes the text with a `/` for each newline.
 fn slashed(text: &[u8]) {
-    let mut at = 0;
-    while at < text.len() {
-        let end = find(text, at, b'\n');
-        io::write_all(1, &text[at..end]);
-        if end == text.len() {
-            return;
+    for (n, line) in text.split(|byte| *byte == b'\n').enumerate() {
+        if 0 < n {
+            io::write_all(1, b"/");
         }
-        io::write_all(1, b"/");
-        at = end + 1;
+        io::write_all(1, line);
     }
 }

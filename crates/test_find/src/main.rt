@@ -13,11 +13,7 @@ use test_lines::{lines, show};
 
 fn main() {
     let mut buffer = io::large_buffer();
-    let mut place = lines::start();
-    while 0 < place.left {
-        place = lines::next(&mut buffer, place);
-        case(lines::line(&buffer, place));
-    }
+    lines::each(&mut buffer, case);
 }
 
 fn case(line: &[u8]) {
@@ -37,10 +33,10 @@ fn find_case(rest: &[u8]) {
     let mut words = [0u64; 301];
     let n = read_words(later_fields(rest), &mut words);
     match dashed::find(&words[..n], &mark[..k]) {
-        Sought::Nowhere => show::line(b"nowhere"),
-        Sought::InSome(least, greatest) => shown(b"some ", least, greatest),
-        Sought::InAll(least, greatest) => shown(b"all ", least, greatest),
-        Sought::Refused(r) => show::refused_line(r),
+        Ok(Sought::Nowhere) => show::line(b"nowhere"),
+        Ok(Sought::InSome(least, greatest)) => shown(b"some ", least, greatest),
+        Ok(Sought::InAll(least, greatest)) => shown(b"all ", least, greatest),
+        Err(r) => show::refused_line(r),
     }
 }
 

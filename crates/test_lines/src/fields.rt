@@ -1,5 +1,5 @@
 // The fields of a line, and lists among its numbers.
-ghost use Rattle.std.specs.Prelude.{◌≤◌, ◌<◌, length};
+ghost use Rattle.std.specs.Prelude.{◌≡◌, ◌≤◌, ◌<◌, length, take};
 ghost use Rattle.io.specs.Counts.{IsPrefixLen};
 
 // Room for the numbers of a line: three shapes of 32 blocks, or the run and the list of a tray, and what stands before
@@ -11,14 +11,10 @@ pub fn find(s: &[u8], from: usize, mark: u8) -> usize
     requires { from ≤ length s.now }
     ensures { (from ≤ result) × (result ≤ length s.now) }
 {
-    let mut i = from;
-    while i < s.len() {
-        if s[i] == mark {
-            return i;
-        }
-        i += 1;
+    match s[from..].iter().position(|byte| *byte == mark) {
+        Some(i) => from + i,
+        None => s.len(),
     }
-    i
 }
 
 // The field behind the leading blank.
@@ -43,27 +39,23 @@ pub fn later_fields(rest: &[u8]) -> &[u8] {
 pub fn read_words(rest: &[u8], row: &mut [u64]) -> usize
     ensures { IsPrefixLen result row.new }
 {
-    let mut n = 0;
     let mut at = 0;
-    while at < rest.len() {
-        if row.len() <= n {
+    for n in 0..row.len() {
+        if rest.len() <= at {
             return n;
         }
         let start = at + 1;
         at = find(rest, start, b' ');
         row[n] = number(&rest[start..at]);
-        n += 1;
     }
-    n
+    row.len()
 }
 
 // The number of a field of hex digits. A digit too many pushes the first one out.
 fn number(field: &[u8]) -> u64 {
     let mut value: u64 = 0;
-    let mut i = 0;
-    while i < field.len() {
-        value = value % 1152921504606846976 * 16 + digit(field[i]) as u64;
-        i += 1;
+    for byte in field {
+        value = value % 1152921504606846976 * 16 + digit(*byte) as u64;
     }
     value
 }
@@ -83,16 +75,11 @@ fn digit(byte: u8) -> u8
 pub fn read_text(field: &[u8], row: &mut [u8]) -> usize
     ensures { IsPrefixLen result row.new }
 {
-    let pairs = field.len() / 2;
-    let mut i = 0;
-    while i < pairs {
-        if row.len() <= i {
-            return i;
-        }
+    let pairs = (field.len() / 2).min(row.len());
+    for i in 0..pairs {
         row[i] = pair(field[2 * i], field[2 * i + 1]);
-        i += 1;
     }
-    i
+    pairs
 }
 
 // The byte of two hex digits.
@@ -101,23 +88,10 @@ fn pair(high: u8, low: u8) -> u8 {
 }
 
 // The number, or the row's length if that is less.
-pub fn within(n: u64, row: &[u8]) -> usize
-    ensures { IsPrefixLen result row.now }
+pub fn within<T>(n: u64, row: &[T]) -> usize
+    ensures { (result ≤ length row.now) × (result ≡ length (take result row.now)) }
 {
-    if n < row.len() as u64 {
-        return n as usize;
-    }
-    row.len()
-}
-
-// The same for a row of numbers.
-pub fn within_numbers(n: u64, row: &[u64]) -> usize
-    ensures { IsPrefixLen result row.now }
-{
-    if n < row.len() as u64 {
-        return n as usize;
-    }
-    row.len()
+    n.min(row.len() as u64) as usize
 }
 
 // The list that the numbers begin with, behind its count.
@@ -126,7 +100,7 @@ pub fn first_list(numbers: &[u64]) -> &[u64] {
         return numbers;
     }
     let rest = &numbers[1..];
-    let n = within_numbers(numbers[0], rest);
+    let n = within(numbers[0], rest);
     &rest[..n]
 }
 
@@ -136,7 +110,7 @@ pub fn later_lists(numbers: &[u64]) -> &[u64] {
         return numbers;
     }
     let rest = &numbers[1..];
-    let n = within_numbers(numbers[0], rest);
+    let n = within(numbers[0], rest);
     &rest[n..]
 }
 
@@ -144,13 +118,7 @@ pub fn later_lists(numbers: &[u64]) -> &[u64] {
 pub fn copy_numbers(numbers: &[u64], row: &mut [u64]) -> usize
     ensures { IsPrefixLen result row.new }
 {
-    let mut i = 0;
-    while i < numbers.len() {
-        if row.len() <= i {
-            return i;
-        }
-        row[i] = numbers[i];
-        i += 1;
-    }
-    i
+    let n = numbers.len().min(row.len());
+    row[..n].copy_from_slice(&numbers[..n]);
+    n
 }

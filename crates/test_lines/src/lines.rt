@@ -1,6 +1,6 @@
 // The lines of the standard input, one after the other, by way of a buffer that holds a piece of it. A place that lies
 // outside the buffer counts as its end, so that a caller has nothing to show of places.
-ghost use Rattle.std.specs.Prelude.{◌≡◌, ◌≤◌, ◌<◌, length};
+ghost use Rattle.std.specs.Prelude.{◌≤◌, length};
 ghost use Rattle.io.specs.Counts.{IsPrefixLen};
 
 use crate::fields::{find, within};
@@ -9,96 +9,87 @@ use crate::show;
 // So many lines are read at most, that a program ends whatever it is given.
 const MOST: usize = 1000000;
 
-// A line lies from `start` to `end`, the next one begins at `next`, and so many bytes of the buffer are read. At most
-// `left` lines may still come: none at the end.
+// A line lies from `start` to `end`, the next one begins at `next`, and so many bytes of the buffer are read.
 #[derive(Clone, Copy)]
-pub struct Place {
-    pub start: usize,
-    pub end: usize,
-    pub next: usize,
-    pub read: usize,
-    pub left: usize,
+struct Place {
+    start: usize,
+    end: usize,
+    next: usize,
+    read: usize,
 }
 
-// Before the first line.
-pub fn start() -> Place {
-    at(0, 0, 0, 0, MOST)
-}
-
-fn at(start: usize, end: usize, next: usize, read: usize, left: usize) -> Place
-    ensures { result.left ≡ left }
+// Hands each line of the standard input on; the letters that lines begin with are each program's own. A last line
+// without a newline is one.
+pub fn each<F: Fn(&[u8])>(buffer: &mut [u8], case: F)
+    requires { F.IsAlwaysCallable case }
 {
-    Place {
-        start: start,
-        end: end,
-        next: next,
-        read: read,
-        left: left,
+    let mut place = Place {
+        start: 0,
+        end: 0,
+        next: 0,
+        read: 0,
+    };
+    for _ in 0..MOST {
+        let Some(found) = next(buffer, place) else {
+            return;
+        };
+        place = found;
+        case(line(buffer, place));
     }
 }
 
 // The bytes of the line.
-pub fn line(buffer: &[u8], place: Place) -> &[u8] {
-    let end = least(place.end, buffer.len());
-    let start = least(place.start, end);
+fn line(buffer: &[u8], place: Place) -> &[u8] {
+    let end = place.end.min(buffer.len());
+    let start = place.start.min(end);
     &buffer[start..end]
 }
 
-fn least(a: usize, b: usize) -> usize
-    ensures { (result ≤ a) × (result ≤ b) }
-{
-    if a < b {
-        return a;
-    }
-    b
-}
-
-// The next line: an empty one at the end of the input, and then none is left. A last line without a newline is one.
-pub fn next(buffer: &mut [u8], place: Place) -> Place
-    requires { 0 < place.left }
-    ensures { result.left < place.left }
-{
-    let left = place.left - 1;
+// The next line, or none at the end of the input.
+fn next(buffer: &mut [u8], place: Place) -> Option<Place> {
     let read = within(place.read as u64, buffer);
-    let from = least(place.next, read);
+    let from = place.next.min(read);
     let end = find(&buffer[..read], from, b'\n');
     if end < read {
-        return at(from, end, end + 1, read, left);
+        return Some(Place {
+            start: from,
+            end,
+            next: end + 1,
+            read,
+        });
     }
-    move_down(buffer, from, read);
-    first(buffer, read - from, left)
-}
-
-// Moves the bytes from the one place to the other to the start of the buffer.
-fn move_down(buffer: &mut [u8], from: usize, to: usize)
-    requires { (from ≤ to) × (to ≤ length buffer.old) }
-{
-    let mut i = 0;
-    while i < to - from {
-        buffer[i] = buffer[from + i];
-        i += 1;
-    }
+    buffer.copy_within(from..read, 0);
+    first(buffer, read - from)
 }
 
 // The first line of the buffer, read on behind the bytes that it begins with. That a line has no room is said in words
 // that no answer has, and it is the last.
-fn first(buffer: &mut [u8], kept: usize, left: usize) -> Place
+fn first(buffer: &mut [u8], kept: usize) -> Option<Place>
     requires { kept ≤ length buffer.old }
-    ensures { result.left ≤ left }
 {
     let read = read_on(buffer, kept);
     if read == 0 {
-        return at(0, 0, 0, 0, 0);
+        return None;
     }
     let end = find(&buffer[..read], 0, b'\n');
     if end < read {
-        return at(0, end, end + 1, read, left);
+        return Some(Place {
+            start: 0,
+            end,
+            next: end + 1,
+            read,
+        });
     }
     if read == buffer.len() {
         show::line(b"a line that has no room");
-        return at(0, 0, 0, 0, 0);
+        return None;
     }
-    at(0, read, read, read, left)
+    Some(Place {
+        start: 0,
+        end: read,
+        next: read,
+        read,
+    })
 }
 
 // Reads on behind the first bytes of the buffer until it is full or the input ends, and answers how many it then has.

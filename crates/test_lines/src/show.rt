@@ -16,11 +16,11 @@ pub fn refused_line(r: Refusal) {
 
 pub fn refused(r: Refusal) {
     io::write_all(1, b"refused ");
-    io::print_decimal(1, answers::number(r));
+    io::print_decimal(1, r.number());
     io::write_all(1, b" ");
-    io::print_decimal(1, answers::text(r));
+    io::print_decimal(1, r.text());
     io::write_all(1, b" ");
-    io::print_decimal(1, answers::place(r));
+    io::print_decimal(1, r.place());
 }
 
 // A text as hex pairs, `-` if it is empty.
@@ -38,24 +38,12 @@ pub fn text(bytes: &[u8]) {
 fn hex_pairs(bytes: &[u8], row: &mut [u8]) -> usize
     ensures { IsPrefixLen result row.new }
 {
-    let mut i = 0;
-    while i < bytes.len() {
-        if row.len() - 2 * i < 2 {
-            return 2 * i;
-        }
-        row[2 * i] = high_digit(bytes[i]);
-        row[2 * i + 1] = low_digit(bytes[i]);
-        i += 1;
+    let n = bytes.len().min(row.len() / 2);
+    for i in 0..n {
+        row[2 * i] = glyph(bytes[i] / 16);
+        row[2 * i + 1] = glyph(bytes[i] % 16);
     }
-    2 * i
-}
-
-fn high_digit(byte: u8) -> u8 {
-    glyph(byte / 16)
-}
-
-fn low_digit(byte: u8) -> u8 {
-    glyph(byte % 16)
+    2 * n
 }
 
 fn glyph(digit: u8) -> u8
@@ -69,11 +57,9 @@ fn glyph(digit: u8) -> u8
 
 // The numbers in hex, each behind a blank.
 pub fn numbers(row: &[u64]) {
-    let mut i = 0;
-    while i < row.len() {
+    for n in row {
         io::write_all(1, b" ");
-        io::print_hex(1, row[i], 1);
-        i += 1;
+        io::print_hex(1, *n, 1);
     }
 }
 
@@ -93,23 +79,16 @@ pub fn rest(bytes: &[u8], filler: u8) {
 }
 
 fn zeros(bytes: &[u8]) -> usize {
-    let mut i = 0;
-    while i < bytes.len() {
-        if bytes[i] != 0 {
-            return i;
-        }
-        i += 1;
-    }
-    i
+    bytes
+        .iter()
+        .position(|byte| *byte != 0)
+        .unwrap_or(bytes.len())
 }
 
 fn untouched(bytes: &[u8], filler: u8) -> usize {
-    let mut i = bytes.len();
-    while 0 < i {
-        if bytes[i - 1] != filler {
-            return bytes.len() - i;
-        }
-        i -= 1;
-    }
-    bytes.len()
+    bytes
+        .iter()
+        .rev()
+        .position(|byte| *byte != filler)
+        .unwrap_or(bytes.len())
 }

@@ -13,17 +13,13 @@
 
 #![tactic(auto)]
 
-use answers::Narrowed;
-use test_lines::fields::{NUMBERS, first_list, later_lists, read_words, within, within_numbers};
+use answers::{Narrowed, Refusal};
+use test_lines::fields::{NUMBERS, first_list, later_lists, read_words, within};
 use test_lines::{lines, show};
 
 fn main() {
     let mut buffer = io::large_buffer();
-    let mut place = lines::start();
-    while 0 < place.left {
-        place = lines::next(&mut buffer, place);
-        case(lines::line(&buffer, place));
-    }
+    lines::each(&mut buffer, case);
 }
 
 fn case(line: &[u8]) {
@@ -47,9 +43,9 @@ fn narrow_case(numbers: &[u64]) {
     let mut work = [0x5au8; 70000];
     let k = within(numbers[1], &work);
     let mut out_x = [0xa5a5u64; 220];
-    let rx = within_numbers(numbers[2], &out_x);
+    let rx = within(numbers[2], &out_x);
     let mut out_y = [0xa5a5u64; 220];
-    let ry = within_numbers(numbers[3], &out_y);
+    let ry = within(numbers[3], &out_y);
     narrow_line(
         numbers[0],
         &numbers[4..],
@@ -77,7 +73,7 @@ fn narrow(
     work: &mut [u8],
     out_x: &mut [u64],
     out_y: &mut [u64],
-) -> Narrowed {
+) -> Result<Narrowed, Refusal> {
     match kind {
         0 => dashed::narrow_padded(x, y, work, out_x, out_y),
         1 => dashed::narrow_at_most(x, y, work, out_x, out_y),
@@ -95,11 +91,11 @@ fn join_case(numbers: &[u64]) {
     let mut work = [0x5au8; 70000];
     let k = within(numbers[0], &work);
     let mut out_x = [0xa5a5u64; 220];
-    let rx = within_numbers(numbers[1], &out_x);
+    let rx = within(numbers[1], &out_x);
     let mut out_y = [0xa5a5u64; 220];
-    let ry = within_numbers(numbers[2], &out_y);
+    let ry = within(numbers[2], &out_y);
     let mut out_z = [0xa5a5u64; 220];
-    let rz = within_numbers(numbers[3], &out_z);
+    let rz = within(numbers[3], &out_z);
     join_line(
         &numbers[4..],
         &mut work[..k],
@@ -130,14 +126,14 @@ fn join_line(
     show::line(b"");
 }
 
-fn narrowed(answer: Narrowed) {
+fn narrowed(answer: Result<Narrowed, Refusal>) {
     match answer {
-        Narrowed::Narrow => {
+        Ok(Narrowed::Narrow) => {
             io::write_all(1, b"narrow");
         }
-        Narrowed::None => {
+        Ok(Narrowed::None) => {
             io::write_all(1, b"none");
         }
-        Narrowed::Refused(r) => show::refused(r),
+        Err(r) => show::refused(r),
     }
 }

@@ -8,17 +8,13 @@
 
 #![tactic(auto)]
 
-use answers::Swept;
-use test_lines::fields::{NUMBERS, first_list, later_lists, read_words, within_numbers};
+use answers::{Refusal, Swept};
+use test_lines::fields::{NUMBERS, first_list, later_lists, read_words, within};
 use test_lines::{lines, show};
 
 fn main() {
     let mut buffer = io::large_buffer();
-    let mut place = lines::start();
-    while 0 < place.left {
-        place = lines::next(&mut buffer, place);
-        case(lines::line(&buffer, place));
-    }
+    lines::each(&mut buffer, case);
 }
 
 fn case(line: &[u8]) {
@@ -39,7 +35,7 @@ fn sweep_case(numbers: &[u64]) {
         return;
     }
     let mut out = [0xa5a5u64; 200];
-    let r = within_numbers(numbers[0], &out);
+    let r = within(numbers[0], &out);
     let lists = &numbers[1..];
     sweep_line(
         first_list(lists),
@@ -54,16 +50,16 @@ fn sweep_line(x: &[u64], y: &[u64], out: &mut [u64]) {
     show::line(b"");
 }
 
-fn swept(answer: Swept) {
+fn swept(answer: Result<Swept, Refusal>) {
     match answer {
-        Swept::Places(looks) => {
+        Ok(Swept::Places(looks)) => {
             io::write_all(1, b"places ");
             io::print_decimal(1, looks);
         }
-        Swept::Cannot(looks) => {
+        Ok(Swept::Cannot(looks)) => {
             io::write_all(1, b"cannot ");
             io::print_decimal(1, looks);
         }
-        Swept::Refused(r) => show::refused(r),
+        Err(r) => show::refused(r),
     }
 }

@@ -10,18 +10,14 @@
 
 ghost use Rattle.std.specs.Prelude.{◌≤◌};
 
-use answers::{AnswerRecord, SweepVerdict, Tray};
+use answers::{AnswerRecord, Refusal, SweepVerdict};
 use test_lines::fields::{NUMBERS, first_list, later_lists, read_words};
 use test_lines::{lines, show};
 use tray_rows::ROOM;
 
 fn main() {
     let mut buffer = io::large_buffer();
-    let mut place = lines::start();
-    while 0 < place.left {
-        place = lines::next(&mut buffer, place);
-        case(lines::line(&buffer, place));
-    }
+    lines::each(&mut buffer, case);
 }
 
 fn case(line: &[u8]) {
@@ -40,10 +36,7 @@ fn case(line: &[u8]) {
 fn within_room(n: u64) -> usize
     ensures { result ≤ 66 }
 {
-    if n < ROOM as u64 {
-        return n as usize;
-    }
-    ROOM
+    n.min(ROOM as u64) as usize
 }
 
 // The first number is the row's length.
@@ -54,7 +47,7 @@ fn tray_case(numbers: &[u64]) {
     let r = within_room(numbers[0]);
     let lists = &numbers[1..];
     let found = AnswerRecord {
-        verdict: SweepVerdict::Cannot,
+        verdict: Ok(SweepVerdict::Cannot),
         looks: 0xa5a5,
     };
     let batch = tray_rows::sweep_row(
@@ -63,37 +56,32 @@ fn tray_case(numbers: &[u64]) {
         [found; 66],
         r,
     );
-    let ended = batch.tray;
-    let row = batch.row;
-    end(ended);
-    let mut i: usize = 0;
-    while i < r {
-        answer(row[i]);
-        i += 1;
+    end(batch.tray);
+    for record in &batch.row[..r] {
+        answer(*record);
     }
     show::line(b"");
 }
 
-fn end(tray: Tray) {
+fn end(tray: Result<(), Refusal>) {
     match tray {
-        Tray::Judged => {
+        Ok(()) => {
             io::write_all(1, b"judged");
         }
-        Tray::Refused(r) => show::refused(r),
+        Err(r) => show::refused(r),
     }
 }
 
 fn answer(record: AnswerRecord) {
     io::write_all(1, b" / ");
-    let verdict = record.verdict;
-    match verdict {
-        SweepVerdict::Places => {
+    match record.verdict {
+        Ok(SweepVerdict::Places) => {
             io::write_all(1, b"places");
         }
-        SweepVerdict::Cannot => {
+        Ok(SweepVerdict::Cannot) => {
             io::write_all(1, b"cannot");
         }
-        SweepVerdict::Refused(r) => show::refused(r),
+        Err(r) => show::refused(r),
     }
     io::write_all(1, b" ");
     io::print_decimal(1, record.looks);

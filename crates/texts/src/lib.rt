@@ -10,18 +10,5 @@ pub fn earlier<'a>(first: &'a [u8], second: &'a [u8]) -> &'a [u8]
     ensures value { AtMost first.now second.now → result ≡ first.entry }
     ensures value_2 { Before second.now first.now → result ≡ second.entry }
 {
-    let mut i = 0;
-    while i < first.len() {
-        if second.len() <= i {
-            return second;
-        }
-        if first[i] < second[i] {
-            return first;
-        }
-        if second[i] < first[i] {
-            return second;
-        }
-        i += 1;
-    }
-    &first[..]
+    if second < first { second } else { first }
 }

@@ -5,26 +5,26 @@ use mathlib.Core.Logic.{inr}
 use Prim.Native.Nat.{ℕ, ◌+◌, ◌*◌, ◌≤◌}
 use native.Mathlib.Omega.{arith}
 use lib.ListN.{length}
+use Rattle.std.specs.Prelude.{Result, Ok, Err}
 use Rattle.answers.specs.Told.{Told, told}
 use Rattle.answers.specs.Turns.{here, later, in_turn}
 use Rattle.answers.specs.declared.AnswerRecord.{AnswerRecord}
 use Rattle.answers.specs.declared.Refusal.{Refusal}
-use Rattle.answers.specs.declared.Refusal.TheVariants.{Range, Size}
+use Rattle.answers.specs.declared.Refusal.TheVariants.{Range}
 use Rattle.answers.specs.declared.Swept.{Swept}
 use Rattle.answers.specs.declared.SweepVerdict.{SweepVerdict}
-use Rattle.answers.specs.declared.Swept.TheVariants.{Places, Cannot, Refused}
+use Rattle.answers.specs.declared.Swept.TheVariants.{Cannot}
 use Rattle.answers.proofs.Told.{told_one}
 use Rattle.answers.proofs.Turns.{OneOf, need_one, in_turn_one, lacks}
 use Rattle.shapes.specs.Shape.{Fits, block_count}
 use Rattle.shapes.specs.Lent.{shape_of}
-use Rattle.pairs.specs.Pair.{PairAccepted, PairRefused}
+use Rattle.pairs.specs.Pair.{PairRefused}
 use Rattle.shapes.proofs.Refused.{of_shape_lem, Other, numbered}
 use Rattle.pairs.proofs.Pair.{pair_other}
 use Rattle.sweep_steps.specs.Steps.{Found, places, cannot, looks_of, sweep_of}
 use Rattle.sweep_steps.proofs.Looks.{looks_bounded}
 use Rattle.sweep_passes.specs.Read.{swept_of}
 use Rattle.sweeps.proofs.Meaning.{means}
-use Rattle.sweeps.proofs.Whole.{not_refused}
 use Rattle.sweep_calls.specs.Sweep.{SweepRefused, SweepPromise}
 use Rattle.tray_pairs.specs.Ranges.{RangeInside, lent_in}
 use Rattle.tray_pairs.specs.Code.{SweptAlone}
@@ -32,17 +32,10 @@ use Rattle.tray_pairs.specs.Judged.{recorded, record_turns, RecordRefused, Recor
 use Rattle.tray_pairs.specs.Judged.Judged.{swept, refused}
 use Rattle.tray_pairs.specs.declared.Pair.{Pair}
 
--- what the steps find of two accepted shapes
-pub answered : (xs ys : List ℕ) (s : Swept) → PairAccepted xs ys → s ≡ swept_of (sweep_of (shape_of xs) (shape_of ys)) → SweptAlone xs ys s
-answered xs ys (Places k) a e = (a, e)
-answered xs ys (Cannot k) a e = (a, e)
-answered xs ys (Refused q) a e = absurd (not_refused (sweep_of (shape_of xs) (shape_of ys)) e)
-
 -- the single call, where its places have room
-pub alone : (xs ys out out' : List ℕ) (s : Swept) → 2 * length (shape_of xs) ≤ length out → SweepPromise xs ys out out' s → SweptAlone xs ys s
-alone xs ys out out' (Places k) room p = (p.accepted, p.answer)
-alone xs ys out out' (Cannot k) room p = (p.accepted, p.answer)
-alone xs ys out out' (Refused q) room p = of_shapes (told q) p.0
+pub alone : (xs ys out out' : List ℕ) (s : Result Swept Refusal) → 2 * length (shape_of xs) ≤ length out → SweepPromise xs ys out out' s → SweptAlone xs ys s
+alone xs ys out out' (Ok s) room p = (p.accepted, p.answer)
+alone xs ys out out' (Err q) room p = of_shapes (told q) p.0
   where
     of_shapes : (t : Told) → SweepRefused xs ys (length out) t → PairRefused xs ys t
     of_shapes t (here d) = d
@@ -50,29 +43,23 @@ alone xs ys out out' (Refused q) room p = of_shapes (told q) p.0
     of_shapes t (later a (here l)) = absurd (l.lacking room)
 
 -- what is refused is not what the steps find, and is refused one way
-not_found : (q : Refusal) (f : Found) → SweepVerdict.Refused q ≡ (recorded (swept_of f)).verdict → ⊥
+not_found : (q : Refusal) (f : Found) → Err q ≡ (recorded (Ok (swept_of f))).verdict → ⊥
 not_found q (places qs k) e = let z : ◌≡◌ {A = ℕ} 0 1 = cc in omega arith
 not_found q (cannot k) e = let z : ◌≡◌ {A = ℕ} 0 1 = cc in omega arith
 
-is_cannot : (f : Found) → (recorded (swept_of f)).verdict ≡ SweepVerdict.Cannot → (k : ℕ) × (swept_of f ≡ Cannot k)
+is_cannot : (f : Found) → (recorded (Ok (swept_of f))).verdict ≡ Ok SweepVerdict.Cannot → (k : ℕ) × (swept_of f ≡ Cannot k)
 is_cannot (places qs k) e = absurd (let z : ◌≡◌ {A = ℕ} 0 1 = cc in omega arith)
 is_cannot (cannot k) e = (k, refl)
 
-refused_not_cannot : {q : Refusal} → SweepVerdict.Refused q ≡ SweepVerdict.Cannot → ⊥
+refused_not_cannot : {q : Refusal} → ◌≡◌ {A = Result SweepVerdict Refusal} (Err q) (Ok SweepVerdict.Cannot) → ⊥
 refused_not_cannot e = let z : ◌≡◌ {A = ℕ} 0 1 = cc in omega arith
 
-looks_of_lem : (f : Found) → (recorded (swept_of f)).looks ≡ looks_of f
+looks_of_lem : (f : Found) → (recorded (Ok (swept_of f))).looks ≡ looks_of f
 looks_of_lem (places qs k) = refl
 looks_of_lem (cannot k) = refl
 
-refusal_of : SweepVerdict → Refusal
-refusal_of SweepVerdict.Places = Size
-refusal_of SweepVerdict.Cannot = Size
-refusal_of (SweepVerdict.Refused q) = q
-
-same_verdict : {q u : Refusal} → recorded (Refused q) ≡ recorded (Refused u) → q ≡ u
-unfolding refusal_of
-same_verdict e = ap (λ (r : AnswerRecord). refusal_of r.verdict) e
+same_verdict : {q u : Refusal} → recorded (Err q) ≡ recorded (Err u) → q ≡ u
+same_verdict e = let v = ap (λ (r : AnswerRecord). r.verdict) e in cc
 
 module _ (blocks : List ℕ) (p : Pair) where
   of_record : OneOf (in_turn (RecordAccepted blocks p) (record_turns blocks p))
@@ -96,17 +83,17 @@ module _ (blocks : List ℕ) (p : Pair) where
   fourteen_only t (later _ (later _ d)) n i j = pair_other (omega arith, inr (omega arith)) d n
 
   -- a refused record: its refusal is the one that is due
-  pub record_refused : (q : Refusal) → Judged blocks p (recorded (Refused q)) → RecordRefused blocks p (told q)
+  pub record_refused : (q : Refusal) → Judged blocks p (recorded (Err q)) → RecordRefused blocks p (told q)
   record_refused q (swept a e) = absurd (not_found q (sweep_of (shape_of (lent_in blocks p.x)) (shape_of (lent_in blocks p.y))) (ap (λ (r : AnswerRecord). r.verdict) e))
   record_refused q (refused u d e) = subst (λ (v : Refusal). RecordRefused blocks p (told v)) (sym (same_verdict e)) d
 
-  pub no_looks : {r : AnswerRecord} (q : Refusal) → Judged blocks p r → r.verdict ≡ SweepVerdict.Refused q → r.looks ≡ 0
+  pub no_looks : {r : AnswerRecord} (q : Refusal) → Judged blocks p r → r.verdict ≡ Err q → r.looks ≡ 0
   no_looks q (swept a e) v =
       absurd (not_found q (sweep_of (shape_of (lent_in blocks p.x)) (shape_of (lent_in blocks p.y))) (sym v ∙ ap (λ (r : AnswerRecord). r.verdict) e))
   no_looks q (refused u d e) v = ap (λ (r : AnswerRecord). r.looks) e
 
   -- what the sweep's answer is worth, and its looks
-  pub cannot_sound : {r : AnswerRecord} → Judged blocks p r → r.verdict ≡ SweepVerdict.Cannot
+  pub cannot_sound : {r : AnswerRecord} → Judged blocks p r → r.verdict ≡ Ok SweepVerdict.Cannot
       → (t : List ℕ) → Fits (shape_of (lent_in blocks p.x)) t → Fits (shape_of (lent_in blocks p.y)) t → ⊥
   cannot_sound (swept a e) v =
       let x = shape_of (lent_in blocks p.x) in
@@ -126,21 +113,20 @@ module _ (blocks : List ℕ) (p : Pair) where
   judged_one (swept a e) (swept b f) = e ∙ sym f
   judged_one (swept a e) (refused q d f) = absurd (record_refused_not d a)
   judged_one (refused q d e) (swept b f) = absurd (record_refused_not d b)
-  judged_one (refused q d e) (refused u c f) = e ∙ ap (λ (v : Refusal). recorded (Refused v)) (told_one q u (record_refused_one d c)) ∙ sym f
+  judged_one (refused q d e) (refused u c f) = e ∙ ap (λ (v : Refusal). recorded (Err v)) (told_one q u (record_refused_one d c)) ∙ sym f
 
   -- the ranges are inside: the answer is the sweep's
-  pub inside_judged : RangeInside (block_count blocks) p.x → RangeInside (block_count blocks) p.y → (s : Swept) → SweptAlone (lent_in blocks p.x) (lent_in blocks p.y) s → Judged blocks p (recorded s)
-  inside_judged i j (Places k) d = swept (record { first = i; second = j; shapes = d.0 }) (ap recorded d.1)
-  inside_judged i j (Cannot k) d = swept (record { first = i; second = j; shapes = d.0 }) (ap recorded d.1)
-  inside_judged i j (Refused q) d = refused q (later i (later j d)) refl
+  pub inside_judged : RangeInside (block_count blocks) p.x → RangeInside (block_count blocks) p.y → (s : Result Swept Refusal) → SweptAlone (lent_in blocks p.x) (lent_in blocks p.y) s → Judged blocks p (recorded s)
+  inside_judged i j (Ok s) d = swept (record { first = i; second = j; shapes = d.0 }) (ap (λ (t : Swept). recorded (Ok t)) d.1)
+  inside_judged i j (Err q) d = refused q (later i (later j d)) refl
 
-  pub first_outside : (RangeInside (block_count blocks) p.x → ⊥) → Judged blocks p (recorded (Refused (Range 1)))
+  pub first_outside : (RangeInside (block_count blocks) p.x → ⊥) → Judged blocks p (recorded (Err (Range 1)))
   first_outside o = refused (Range 1) (here (lacks o)) refl
 
-  pub second_outside : RangeInside (block_count blocks) p.x → (RangeInside (block_count blocks) p.y → ⊥) → Judged blocks p (recorded (Refused (Range 2)))
+  pub second_outside : RangeInside (block_count blocks) p.x → (RangeInside (block_count blocks) p.y → ⊥) → Judged blocks p (recorded (Err (Range 2)))
   second_outside i o = refused (Range 2) (later i (here (lacks o))) refl
 
   -- equal to what a single call gives
-  pub as_single : (out out' : List ℕ) (r : AnswerRecord) (s : Swept) → RangeInside (block_count blocks) p.x → RangeInside (block_count blocks) p.y → 2 * length (shape_of (lent_in blocks p.x)) ≤ length out
+  pub as_single : (out out' : List ℕ) (r : AnswerRecord) (s : Result Swept Refusal) → RangeInside (block_count blocks) p.x → RangeInside (block_count blocks) p.y → 2 * length (shape_of (lent_in blocks p.x)) ≤ length out
       → SweepPromise (lent_in blocks p.x) (lent_in blocks p.y) out out' s → Judged blocks p r → r ≡ recorded s
   as_single out out' r s i j h d e = judged_one e (inside_judged i j s (alone (lent_in blocks p.x) (lent_in blocks p.y) out out' s h d))

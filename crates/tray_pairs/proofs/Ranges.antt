@@ -3,10 +3,11 @@
 use mathlib.Core.Path.{◌≡◌, refl, sym, ap, ap₂, ◌∙◌, subst, subst₂}
 use mathlib.Core.List.{List, [], ◌∷◌, ◌++◌}
 use mathlib.Core.Logic.{◌⊎◌, inl, inr, ◌↔◌}
-use Prim.Native.Nat.{ℕ, ◌+◌, ◌-◌, ◌*◌, ◌%◌, ◌≤◌, ◌<◌}
+use Prim.Native.Nat.{ℕ, ◌-◌, ◌*◌, ◌%◌, ◌≤◌, ◌<◌}
 use native.Mathlib.Omega.{arith}
 use lib.ListN.{length, take, drop, length-append, length-drop}
 use lib.Seq.{drop-append-le, take-append-le}
+use Rattle.std.specs.Prelude.{Ok}
 use Rattle.answers.specs.Told.{Told, tell}
 use Rattle.answers.specs.Turns.{here, later}
 use Rattle.answers.specs.declared.AnswerRecord.{AnswerRecord}
@@ -90,4 +91,4 @@ module _ (xs zs : List ℕ) (whole : length xs % block_size ≡ 0) (few : length
       let x = same_lent p.x i in
       let y = same_lent p.y j in
       swept (record { first = i; second = j; shapes = subst₂ PairAccepted x y a.shapes })
-      (e ∙ ap₂ (λ (us vs : List ℕ). recorded (swept_of (sweep_of (shape_of us) (shape_of vs)))) x y)
+      (e ∙ ap₂ (λ (us vs : List ℕ). recorded (Ok (swept_of (sweep_of (shape_of us) (shape_of vs))))) x y)

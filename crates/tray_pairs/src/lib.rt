@@ -8,7 +8,7 @@ ghost use Rattle.tray_pairs.specs.Code.{SweptAlone};
 ghost use Rattle.tray_pairs.specs.Judged.{recorded, Judged};
 ghost use Rattle.tray_pairs.specs.Ranges.{pair_count, pair_at, RangeInside};
 
-use answers::{AnswerRecord, Checked, Refusal, SweepVerdict, Swept};
+use answers::{AnswerRecord, Refusal, SweepVerdict, Swept};
 
 // The numbers of a pair. It is not the size of a block.
 pub const SIZE: usize = 4;
@@ -49,63 +49,57 @@ fn pair_at(pairs: &[u64], i: usize) -> Pair
 fn inside(n: usize, r: Range) -> bool
     ensures { Tells result (RangeInside n r) }
 {
-    if r.past < r.first {
-        return false;
-    }
-    r.past <= n as u64
+    r.first <= r.past && r.past <= n as u64
 }
 
-// An answer of the sweep as a record: no looks are told of a refusal.
-fn record_of(s: Swept) -> AnswerRecord
+// An answer of the sweep as a record: no looks are told of a refusal. A `From` could not stand here, where neither type
+// is declared.
+fn record_of(s: Result<Swept, Refusal>) -> AnswerRecord
     ensures { result ≡ recorded s }
 {
     match s {
-        Swept::Places(looks) => AnswerRecord {
-            verdict: SweepVerdict::Places,
+        Ok(Swept::Places(looks)) => AnswerRecord {
+            verdict: Ok(SweepVerdict::Places),
             looks: looks,
         },
-        Swept::Cannot(looks) => AnswerRecord {
-            verdict: SweepVerdict::Cannot,
+        Ok(Swept::Cannot(looks)) => AnswerRecord {
+            verdict: Ok(SweepVerdict::Cannot),
             looks: looks,
         },
-        Swept::Refused(r) => AnswerRecord {
-            verdict: SweepVerdict::Refused(r),
+        Err(r) => AnswerRecord {
+            verdict: Err(r),
             looks: 0,
         },
     }
 }
 
 // The quick sweep as in a single call, but that its places are dropped.
-fn sweep_alone(x: &[u64], y: &[u64]) -> Swept
+fn sweep_alone(x: &[u64], y: &[u64]) -> Result<Swept, Refusal>
     ensures { SweptAlone x.now y.now result }
 {
-    match pairs::check_pair(x, y) {
-        Checked::Refused(r) => Swept::Refused(r),
-        Checked::Sound => {
-            let mut kept = [0u64; 64];
-            sweeps::sweep_kept(x, y, &mut kept)
-        }
-    }
+    pairs::check_pair(x, y)?;
+    let mut kept = [0u64; 64];
+    Ok(sweeps::sweep_kept(x, y, &mut kept))
 }
 
 // The answer on a pair: its ranges first, compared before anything is multiplied.
-fn judge(blocks: &[u64], p: Pair) -> Swept
+fn judge(blocks: &[u64], p: Pair) -> Result<Swept, Refusal>
     ensures { Judged blocks.now p (recorded result) }
 {
     let n = blocks.len() / shapes::SIZE;
     let x = p.x;
     let y = p.y;
-    if inside(n, x) {
-        if inside(n, y) {
-            let a = x.first as usize * shapes::SIZE;
-            let b = x.past as usize * shapes::SIZE;
-            let c = y.first as usize * shapes::SIZE;
-            let d = y.past as usize * shapes::SIZE;
-            return sweep_alone(&blocks[a..b], &blocks[c..d]);
-        }
-        return Swept::Refused(Refusal::Range(2));
+    if !inside(n, x) {
+        return Err(Refusal::Range(1));
     }
-    Swept::Refused(Refusal::Range(1))
+    if !inside(n, y) {
+        return Err(Refusal::Range(2));
+    }
+    let a = x.first as usize * shapes::SIZE;
+    let b = x.past as usize * shapes::SIZE;
+    let c = y.first as usize * shapes::SIZE;
+    let d = y.past as usize * shapes::SIZE;
+    sweep_alone(&blocks[a..b], &blocks[c..d])
 }
 
 // The answer record of pair i, from 0, of the list.

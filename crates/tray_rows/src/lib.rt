@@ -5,15 +5,15 @@
 ghost use Rattle.std.specs.Prelude.{◌≡◌, ◌≤◌, take, drop};
 ghost use Rattle.dashed.specs.Promises.{SweepTray};
 
-use answers::{AnswerRecord, Tray};
+use answers::{AnswerRecord, Refusal};
 
 // Two more than a tray may have pairs, so that a row can be longer than the list in every case.
 pub const ROOM: usize = 66;
 
-// How the call ended, and the row afterwards.
+// How the call ended, and the row afterwards, which is handed back also where the call is refused.
 #[derive(Clone, Copy)]
 pub struct Batch {
-    pub tray: Tray,
+    pub tray: Result<(), Refusal>,
     pub row: [AnswerRecord; 66],
 }
 

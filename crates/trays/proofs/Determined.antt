@@ -7,12 +7,12 @@ use Rattle.plain.proofs.Plain.{lt_or_le, eq_or_ne}
 use native.Mathlib.Omega.{arith}
 use lib.ListN.{length, get_or}
 use lib.Seq.{get_or-drop, ext_get_or}
+use Rattle.std.specs.Prelude.{Result, Ok, Err}
 use Rattle.answers.specs.Told.{Told}
 use Rattle.answers.specs.Turns.{in_turn}
 use Rattle.answers.specs.declared.AnswerRecord.{AnswerRecord}
 use Rattle.answers.specs.declared.SweepVerdict.{SweepVerdict}
-use Rattle.answers.specs.declared.Tray.{Tray}
-use Rattle.answers.specs.declared.Tray.TheVariants.{Judged as is-judged, Refused}
+use Rattle.answers.specs.declared.Refusal.{Refusal}
 use Rattle.answers.proofs.Told.{told_one}
 use Rattle.answers.proofs.Turns.{OneOf, need_one, in_turn_one}
 use Rattle.tray_pairs.specs.Ranges.{pair_size, pair_at}
@@ -44,10 +44,10 @@ wrong_list listed = ((λ w. to w (eq_or_ne (listed % pair_size) 0) (lt_or_le 64 
     from (inr h) l = let f = l.few in omega arith
 
 -- up to 64 pairs with a record each are judged
-pub up_to_64 : (blocks pairs : List ℕ) (row row' : List AnswerRecord) (r : Tray) (n : ℕ) → n ≤ 64 → length pairs ≡ n * pair_size → n ≤ length row
-    → TrayPromise blocks pairs row row' r → r ≡ is-judged
-up_to_64 blocks pairs row row' is-judged n few long room p = refl
-up_to_64 blocks pairs row row' (Refused q) n few long room p =
+pub up_to_64 : (blocks pairs : List ℕ) (row row' : List AnswerRecord) (r : Result Unit Refusal) (n : ℕ) → n ≤ 64 → length pairs ≡ n * pair_size → n ≤ length row
+    → TrayPromise blocks pairs row row' r → r ≡ Ok tt
+up_to_64 blocks pairs row row' (Ok _) n few long room p = refl
+up_to_64 blocks pairs row row' (Err q) n few long room p =
     absurd (tray_refused_not p.0 (record { list = record { whole = omega (arith, long); few = omega (arith, long) }; row = omega (arith, long) }))
 
 -- two rows filled from one
@@ -61,12 +61,12 @@ module _ {blocks pairs : List ℕ} {n : ℕ} {row row' row'' : List AnswerRecord
 
   filled_one : row' ≡ row''
   filled_one =
-      let d : AnswerRecord = record { verdict = SweepVerdict.Cannot; looks = 0 } in
+      let d : AnswerRecord = record { verdict = Ok SweepVerdict.Cannot; looks = 0 } in
       ext_get_or d row' row'' (f.same_length ∙ sym g.same_length) (λ i h. same_at d i (lt_or_le i n))
 
-pub tray_determined : (blocks pairs : List ℕ) (row row' row'' : List AnswerRecord) (r s : Tray) → TrayPromise blocks pairs row row' r → TrayPromise blocks pairs row row'' s
+pub tray_determined : (blocks pairs : List ℕ) (row row' row'' : List AnswerRecord) (r s : Result Unit Refusal) → TrayPromise blocks pairs row row' r → TrayPromise blocks pairs row row'' s
     → (r ≡ s) × (row' ≡ row'')
-tray_determined blocks pairs row row' row'' is-judged is-judged p q = (refl, filled_one p.1 q.1)
-tray_determined blocks pairs row row' row'' is-judged (Refused s) p q = absurd (tray_refused_not q.0 p.0)
-tray_determined blocks pairs row row' row'' (Refused r) is-judged p q = absurd (tray_refused_not p.0 q.0)
-tray_determined blocks pairs row row' row'' (Refused r) (Refused s) p q = (ap Refused (told_one r s (tray_refused_one p.0 q.0)), p.1 ∙ sym q.1)
+tray_determined blocks pairs row row' row'' (Ok _) (Ok _) p q = (refl, filled_one p.1 q.1)
+tray_determined blocks pairs row row' row'' (Ok _) (Err s) p q = absurd (tray_refused_not q.0 p.0)
+tray_determined blocks pairs row row' row'' (Err r) (Ok _) p q = absurd (tray_refused_not p.0 q.0)
+tray_determined blocks pairs row row' row'' (Err r) (Err s) p q = (ap Err (told_one r s (tray_refused_one p.0 q.0)), p.1 ∙ sym q.1)

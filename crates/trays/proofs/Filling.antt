@@ -1,21 +1,16 @@
--- The row of a tray, filled record by record, and what its end makes of it. Assumes nothing.
+-- The row of a tray, filled record by record. Assumes nothing.
 use mathlib.Core.Path.{◌≡◌, refl, sym, ◌∙◌, ap, subst}
 use mathlib.Core.List.{List}
 use mathlib.Core.Logic.{◌⊎◌, inl, inr}
-use Prim.Native.Nat.{ℕ, ◌+◌, ◌/◌, ◌≤◌, ◌<◌}
+use Prim.Native.Nat.{ℕ, ◌+◌, ◌<◌}
 use native.Mathlib.Nat.{eq-or-lt_of_le}
 use native.Mathlib.Omega.{arith}
 use lib.ListN.{length, get_or, set, drop, length-set}
 use lib.Seq.{get_or-set_same, get_or-set_other, drop-set-lt, drop-drop}
 use Rattle.answers.specs.declared.AnswerRecord.{AnswerRecord}
-use Rattle.answers.specs.declared.Tray.{Tray}
-use Rattle.answers.specs.declared.Tray.TheVariants.{Judged as is-judged, Refused}
 use Rattle.tray_pairs.specs.Judged.{Judged}
-use Rattle.tray_pairs.specs.Ranges.{pair_size, pair_at}
-use Rattle.trays.specs.Code.{TrayEnds, Counted}
-use Rattle.trays.specs.Code.Counted.{each_pair, no_pair}
-use Rattle.trays.specs.Tray.{Filled, TrayPromise}
-use Rattle.trays.proofs.Determined.{tray_refused_not}
+use Rattle.tray_pairs.specs.Ranges.{pair_at}
+use Rattle.trays.specs.Tray.{Filled}
 
 pub none_yet : (blocks pairs : List ℕ) (ys : List AnswerRecord) → Filled blocks pairs 0 ys ys
 none_yet blocks pairs ys = record { same_length = refl; judged = λ i h d. absurd (omega (arith, h)); others = refl }
@@ -32,23 +27,3 @@ one_more blocks pairs i ys zs r f within p = record {
     pick j d (inl e) =
         subst (λ (k : ℕ). Judged blocks (pair_at pairs k) (get_or (set zs i r) k d)) (sym e) (subst (Judged blocks (pair_at pairs i)) (sym (get_or-set_same zs i r d within)) p)
     pick j d (inr l) = subst (Judged blocks (pair_at pairs j)) (sym (get_or-set_other zs i j r d (λ e. omega (arith, e, l)))) (f.judged j l d)
-
-module _ {listed room n : ℕ} where
-  pub counted_pairs : Counted listed room n → n ≤ listed / pair_size
-  counted_pairs (each_pair a e) = omega (arith, e)
-  counted_pairs (no_pair a e) = omega (arith, e)
-
-  pub counted_few : Counted listed room n → n ≤ 64
-  counted_few (each_pair a e) = let f = a.list.few in omega (arith, e, f)
-  counted_few (no_pair a e) = omega (arith, e)
-
-  pub counted_row : Counted listed room n → n ≤ room
-  counted_row (each_pair a e) = let f = a.row in omega (arith, e, f)
-  counted_row (no_pair a e) = omega (arith, e)
-
-module _ (blocks pairs : List ℕ) (row row' : List AnswerRecord) {n : ℕ} where
-  pub promised : (r : Tray) → Counted (length pairs) (length row) n → TrayEnds (length pairs) (length row) r → Filled blocks pairs n row row' → TrayPromise blocks pairs row row' r
-  promised is-judged (each_pair a e) d f = (d, subst (λ (k : ℕ). Filled blocks pairs k row row') e f)
-  promised is-judged (no_pair a e) d f = absurd (a d)
-  promised (Refused q) (each_pair a e) d f = absurd (tray_refused_not d a)
-  promised (Refused q) (no_pair a e) d f = (d, subst (λ (k : ℕ). drop k row' ≡ drop k row) e f.others)

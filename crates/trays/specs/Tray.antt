@@ -1,11 +1,10 @@
 -- Document 02, order 8: what the call on a tray of pairs promises. Lent: a run of blocks, a list of pairs, a row of
 -- answer records; row' is the row as handed back.
-use Rattle.std.specs.Prelude.{◌≡◌, List, [], ◌∷◌, ℕ, ◌/◌, ◌%◌, ◌≤◌, ◌<◌, length, get_or, drop}
+use Rattle.std.specs.Prelude.{◌≡◌, List, [], ◌∷◌, ℕ, ◌/◌, ◌%◌, ◌≤◌, ◌<◌, length, get_or, drop, Result, Ok, Err}
 use Rattle.answers.specs.Told.{Told, tell, told}
 use Rattle.answers.specs.Turns.{Turn, FirstDue, need}
 use Rattle.answers.specs.declared.AnswerRecord.{AnswerRecord}
-use Rattle.answers.specs.declared.Tray.{Tray}
-use Rattle.answers.specs.declared.Tray.TheVariants.{Judged as is-judged, Refused}
+use Rattle.answers.specs.declared.Refusal.{Refusal}
 use Rattle.tray_pairs.specs.Judged.{Judged}
 use Rattle.tray_pairs.specs.Ranges.{pair_size, pair_count, pair_at}
 
@@ -33,6 +32,6 @@ pub record Filled (blocks pairs : List ℕ) (n : ℕ) (row row' : List AnswerRec
   pub judged : (i : ℕ) → i < n → (d : AnswerRecord) → Judged blocks (pair_at pairs i) (get_or row' i d)
   pub others : drop n row' ≡ drop n row
 
-abbrev pub TrayPromise : List ℕ → List ℕ → List AnswerRecord → List AnswerRecord → Tray → Type 0
-TrayPromise blocks pairs row row' is-judged = TrayAccepted (length pairs) (length row) × Filled blocks pairs (pair_count pairs) row row'
-TrayPromise blocks pairs row row' (Refused q) = TrayRefused (length pairs) (length row) (told q) × (row' ≡ row)
+abbrev pub TrayPromise : List ℕ → List ℕ → List AnswerRecord → List AnswerRecord → Result Unit Refusal → Type 0
+TrayPromise blocks pairs row row' (Ok _) = TrayAccepted (length pairs) (length row) × Filled blocks pairs (pair_count pairs) row row'
+TrayPromise blocks pairs row row' (Err q) = TrayRefused (length pairs) (length row) (told q) × (row' ≡ row)

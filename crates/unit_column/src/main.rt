@@ -52,18 +52,18 @@ fn main() {
         1,
     ];
     match dashed::find(&line, b"Nm") {
-        Sought::Nowhere => said(b"no line has Nm\n"),
-        Sought::InSome(least, greatest) => columns(
+        Ok(Sought::Nowhere) => said(b"no line has Nm\n"),
+        Ok(Sought::InSome(least, greatest)) => columns(
             b"some lines have Nm, from column ",
             least,
             greatest,
         ),
-        Sought::InAll(least, greatest) => columns(
+        Ok(Sought::InAll(least, greatest)) => columns(
             b"every line has Nm, from column ",
             least,
             greatest,
         ),
-        Sought::Refused(r) => refused(answers::number(r)),
+        Err(r) => refused(r.number()),
     }
 }
 

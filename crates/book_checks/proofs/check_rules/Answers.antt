@@ -1,57 +1,26 @@
 -- `book_checks::check_rules`: every rule passed is sound. Assumes nothing.
-use mathlib.Core.Path.{◌≡◌, subst}
-use mathlib.Core.List.{List}
-use Prim.Native.Nat.{ℕ, ◌+◌, ◌-◌, ◌<◌}
+use mathlib.Core.Path.{subst}
+use Prim.Native.Nat.{◌+◌}
 use native.Mathlib.Omega.{arith}
 use borrow.Author.Count.{below_more}
+use Rattle.std.proofs.lemmas.Result.{err_from_is_err_and}
 use Rattle.answers.specs.Told.{told}
-use Rattle.answers.specs.declared.Refusal.{Refusal}
-use Rattle.answers.specs.declared.Checked.{Checked}
-use Rattle.answers.specs.declared.Checked.TheVariants.{Sound as is-sound, Refused}
 use Rattle.rules.specs.declared.Rule.{Rule}
-use Rattle.rules.specs.Rule.{rule_at}
-use Rattle.shapes.specs.Shape.{Block}
 use Rattle.shapes.specs.Lent.{shape_of}
-use Rattle.books.specs.Refused.{SoundRule, FirstRule}
-use Rattle.books.specs.Code.{RuleChecked}
+use Rattle.books.specs.Refused.{SoundRule, RuleRefused}
 use Rattle.books.proofs.Tell.{first_rule}
-use borrow.Author.Rules.{rules as std_rules}
 use Rattle.book_checks.proofs.check_rules.Goals as goal
-use Rattle.book_checks.proofs.check_rules.Goals.{After-check_rule}
 
--- what is known of rule j once it is checked
-module _ (c : After-check_rule) where
-  abbrev counts : List ℕ
-  counts = c.args.counts.now
-
-  abbrev S : List Block
-  S = shape_of c.args.blocks.now
-
-  abbrev rules : List ℕ
-  rules = c.args.rules.now
-
-  abbrev j : ℕ
-  j = c.loop-j.j
-
-  checked : {r : Checked} → c.check_rule.result ≡ r → RuleChecked counts S (j + 1) (rule_at rules j) r
-  checked {r} e =
-      let read = subst (λ (t : Rule). RuleChecked counts S (j + 1) t c.check_rule.result) c.rule_at-rule.ensures c.check_rule.ensures in
-      subst (RuleChecked counts S (j + 1) (rule_at rules j)) e read
-
-  first : {t : Refusal} → c.check_rule.result ≡ Refused t → FirstRule counts S rules (j + 1) (told t)
-  first e = first_rule counts S rules j (omega arith) c.loop-j.invariant.2 (checked e)
-
-  one_more : c.check_rule.result ≡ is-sound → (i : ℕ) → i < j + 1 → SoundRule counts S (rule_at rules i)
-  one_more e = below_more _ j c.loop-j.invariant.2 (checked e)
-
-pub loop-j-init : goal.loop-j-init
-loop-j-init c = (search std_rules, search std_rules, λ i h. absurd (omega arith))
-
-pub returns-in-Refused : goal.returns-in-Refused
-returns-in-Refused c = (_, first (goal.at.returns-in-Refused c).After-check_rule c.in-Refused.is)
+pub returns-in_err-check_rule : goal.returns-in_err-check_rule
+returns-in_err-check_rule c =
+    let p = err_from_is_err_and c.from_residual.result c.from_residual.ensures.1 in
+    let j = c.loop-j.j in
+    let bad = subst (λ (t : Rule). RuleRefused c.args.counts.now (shape_of c.args.blocks.now) (j + 1) t (told c.in_err-check_rule.field-0.0)) c.rule_at.ensures c.in_err-check_rule.ensures in
+    rw (p.1, p.2) (_, first_rule _ _ c.args.rules.now j (omega arith) c.loop-j.invariant bad)
 
 pub loop-j-preserved : goal.loop-j-preserved
-loop-j-preserved c = (search std_rules, omega arith, one_more (goal.at.loop-j-preserved c).After-check_rule c.in-Sound.is)
+loop-j-preserved c =
+    below_more _ c.loop-j.j c.loop-j.invariant (subst (SoundRule c.args.counts.now (shape_of c.args.blocks.now)) c.rule_at.ensures c.in_ok-check_rule.ensures)
 
 pub returns : goal.returns
-returns c = record { each = λ i h. c.loop-j.invariant.2 i (omega arith) }
+returns c = record { each = λ i h. c.loop-j.invariant i (omega arith) }

@@ -1,17 +1,19 @@
 -- `carries::lower`: by whole words, then by what is left. Assumes nothing.
-use Rattle.std.proofs.Common.{◌≡◌, ℕ, ◌+◌, ◌-◌, ◌/◌, ◌^◌, refl, ap, ◌∙◌, arith, shr-shr}
+use Rattle.std.proofs.Common.{◌≡◌, ℕ, ◌+◌, ◌*◌, ◌/◌, ◌%◌, ◌^◌, ap, ◌∙◌, arith, shr-shr}
 use Rattle.sets.specs.Set.{set_of}
 use Rattle.carries.proofs.lower.Goals as goal
 
-pub loop-k-init : goal.loop-k-init
-loop-k-init c = refl
-
-pub loop-k-preserved : goal.loop-k-preserved
-loop-k-preserved c =
-    let l = c.loop-k in
-    let n = set_of l.r in
-    let all : 64 + (l.k - 64) ≡ l.k = omega arith in
-    ap (λ (x : ℕ). x / 2 ^ (l.k - 64)) c.word_down-r.ensures ∙ shr-shr n 64 (l.k - 64) ∙ ap (λ (x : ℕ). n / 2 ^ x) all ∙ l.invariant
+pub loop-preserved : goal.loop-preserved
+loop-preserved c =
+    let l = c.loop in
+    let n = set_of c.args.s in
+    let more : 64 * l.counter + 64 ≡ 64 * (l.counter + 1) = omega arith in
+    c.word_down-r.ensures ∙ ap (λ (x : ℕ). x / 2 ^ 64) l.invariant ∙ shr-shr n (64 * l.counter) 64 ∙ ap (λ (x : ℕ). n / 2 ^ x) more
 
 pub returns : goal.returns
-returns c = c.bits_down.ensures ∙ c.loop-k.invariant
+returns c =
+    let l = c.loop in
+    let n = set_of c.args.s in
+    let k = c.args.by in
+    let all : 64 * l.counter + k % 64 ≡ k = omega arith in
+    c.bits_down.ensures ∙ ap (λ (x : ℕ). x / 2 ^ (k % 64)) l.invariant ∙ shr-shr n (64 * l.counter) (k % 64) ∙ ap (λ (x : ℕ). n / 2 ^ x) all

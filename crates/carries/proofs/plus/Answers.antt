@@ -6,9 +6,5 @@ use Rattle.carries.proofs.plus.Goals as goal
 
 pub returns : goal.returns
 returns c =
-    let a = c.sum-a in
-    let b = c.sum-b in
-    let d = c.sum-c in
-    let e = c.sum-d in
-    plus_words _ _ _ a.result.carry b.result.carry d.result.carry e.result.carry (search rules) (search rules) (search rules) (search rules)
-    a.ensures.0 b.ensures.0 d.ensures.0 e.ensures.0
+    plus_words c.args.s c.args.t _ _ _ _ _ (search rules) (search rules) (search rules) (search rules)
+    c.carrying_add-a.ensures c.carrying_add-b.ensures c.carrying_add-c.ensures c.carrying_add-d.ensures

@@ -1,13 +1,15 @@
 -- `carries::spans`: from where twice as many numbers go on each turn, until that is nowhere or as many as there are.
 -- Assumes nothing.
-use Rattle.std.proofs.Common.{ℕ, ◌-◌, ◌^◌, ◌<◌, sym, refl, ◌∙◌, subst, arith, rules}
+use Rattle.std.proofs.Common.{◌≡◌, ℕ, ◌^◌, ◌<◌, length, refl, subst, arith, rules}
 use Rattle.bases.specs.Base.{Holds}
-use Rattle.sets.specs.Set.{set_of}
+use Rattle.sets.specs.Set.{set_of, Exactly}
 use Rattle.sets.proofs.Exact.{held_under}
 use Rattle.sets.proofs.Four.{set_bound}
-use Rattle.carries.specs.Climb.{NoFarther}
-use Rattle.carries.proofs.Doubled.{goes_first_lem, goes_more, no_farther, no_farther_than}
-use Rattle.carries.proofs.Spanned.{doubled, below_eight, spans_of, spanned_more, spans_none}
+use Rattle.carries.specs.Climb.{Goes}
+use Rattle.rows.specs.Row.{row_in}
+use Rattle.rows.proofs.Rows.{put_row}
+use Rattle.carries.proofs.Doubled.{goes_more, no_farther, no_farther_than}
+use Rattle.carries.proofs.Spanned.{doubled, shifted, spans_of, spanned_more}
 use borrow.Author.Rules.{rules}
 use Rattle.carries.proofs.spans.Goals as goal
 use Rattle.carries.proofs.spans.Goals.{Start}
@@ -16,43 +18,23 @@ use Rattle.carries.proofs.spans.Goals.{Start}
 ends : (c : Start) (e : ℕ) → Holds (set_of c.args.free) e → e < 256
 ends c = held_under 256 (set_bound c.args.free (search rules))
 
-pub returns-then-is_word : goal.returns-then-is_word
-returns-then-is_word c =
-    let one = c.is_word.ensures.0 c.if-is_word.true in
-    (search rules, spans_none _ (subst (λ (n : ℕ). n < 2 ^ 64) (sym one) (search rules)))
-
-pub loop-d-init : goal.loop-d-init
-loop-d-init c = (refl, search rules, search rules, refl, goes_first_lem _, λ i h. absurd (omega arith))
-
 pub returns-then-is_empty : goal.returns-then-is_empty
 returns-then-is_empty c =
-    let l = c.loop-d in
-    (search rules, spans_of _ _ l.l l.invariant.2 (search rules) l.invariant.5 (λ w. subst (NoFarther _) l.invariant.0 (no_farther _ l.d l.invariant.4 (c.is_empty.ensures.so c.if-is_empty.true))))
+    let l = c.loop-l in
+    (omega arith, spans_of _ _ l.l (omega arith) (omega arith) l.invariant.1 (λ w. no_farther _ (2 ^ l.l) l.invariant.0 (c.is_empty.ensures.so c.if-is_empty.true)))
 
-pub put_row-requires : goal.put_row-requires
-put_row-requires c =
-    let l = c.loop-d in
-    let k = below_eight l.l l.invariant.0 (omega arith) in
-    let long = l.invariant.3 in
-    let room = c.requires in
-    omega arith
-
-pub loop-d-preserved : goal.loop-d-preserved
-loop-d-preserved c =
-    let l = c.loop-d in
-    let put = c.put_row.ensures in
-    let k = below_eight l.l l.invariant.0 (omega arith) in (
-      doubled l.l l.invariant.0,
-      omega arith,
-      omega arith,
-      put.long ∙ l.invariant.3,
-      goes_more _ l.d l.invariant.4 c.lower.ensures c.both-p.ensures,
-      spanned_more _ put l.invariant.0 l.invariant.4 l.invariant.5,
+pub loop-l-preserved : goal.loop-l-preserved
+loop-l-preserved c =
+    let l = c.loop-l in
+    let room : l.l < length l.rows = omega arith in
+    let put = put_row l.rows l.l l.p room in (
+      subst (λ (d : ℕ). Exactly (set_of c.both-p.result) (Goes (set_of c.args.free) d)) (doubled l.l refl) (goes_more _ (2 ^ l.l) l.invariant.0 (shifted _ l.l (omega arith) c.lower.ensures) c.both-p.ensures),
+      spanned_more _ put refl l.invariant.0 l.invariant.1,
     )
 
 pub returns : goal.returns
 returns c =
-    let l = c.loop-d in
-    let d = l.invariant.0 in
-    let start = c in
-    (search rules, spans_of _ _ l.l l.invariant.2 (search rules) l.invariant.5 (λ w. subst (NoFarther _) l.invariant.0 (no_farther_than _ 256 l.d (ends (goal.at.returns start).Start) (omega arith))))
+    let l = c.loop-l in
+    let all : l.l ≡ 8 = omega arith in
+    let each = subst (λ (n : ℕ). (i : ℕ) → i < n → Exactly (row_in l.rows i) (Goes (set_of c.args.free) (2 ^ i))) all l.invariant.1 in
+    (omega arith, spans_of _ l.rows 8 (omega arith) (omega arith) each (λ w. no_farther_than _ 256 256 (ends (goal.at.returns c).Start) (omega arith)))

@@ -1,7 +1,7 @@
 -- `common_back::back`: the last row first, then block by block from the last, each from the row at its end. Assumes
 -- nothing.
 use mathlib.Core.Path.{◌≡◌}
-use Prim.Native.Nat.{◌-◌, ◌≤◌}
+use Prim.Native.Nat.{◌≤◌}
 use lib.ListN.{length}
 use Rattle.sets.specs.Set.{set_of}
 use Rattle.shapes.specs.Shape.{block_count}
@@ -11,7 +11,4 @@ use Rattle.common_back.proofs.back.Given as goal
 
 abbrev pub invariant-loop-i : goal.invariant-loop-i
 invariant-loop-i l =
-    (l.k ≡ block_count l.y) × (l.i ≤ block_count l.x) × (length l.mines ≡ length l.initial.mines) × (length l.rows ≡ table_size) × PassFrom l.x l.y l.i l.p l.mines l.rows (set_of l.row)
-
-abbrev pub decreases-loop-i : goal.decreases-loop-i
-decreases-loop-i l = l.i
+    (l.i ≤ block_count l.x) × (length l.rows ≡ table_size) × PassFrom l.x l.y l.i l.p l.mines l.rows (set_of l.row)

@@ -1,35 +1,15 @@
 -- `common_rooms::earliest`: both laid out, then the pass from the ends. Assumes nothing.
+use mathlib.Core.Path.{refl}
 use borrow.Author.Rules.{rules}
+use Rattle.row_paths.proofs.Laid.{laid_part}
 use Rattle.common_rooms.proofs.earliest.Goals as goal
 
-pub back-requires : goal.back-requires
-back-requires c =
-    let p = c.requires in
-    let few = p.x_bound in
-    record {
-      whole = p.whole.0;
-      laid = record { whole = p.whole.1; lay = c.lay-w.ensures.lay; zones_long = search rules; ends_long = search rules; slots_long = search rules };
-      x_bound = (search rules, search rules);
-    }
+pub back-requires-clause-laid : goal.back-requires-clause-laid
+back-requires-clause-laid c = let few = c.requires.x_bound.1 in laid_part c.args.y.now _ _ c.requires.whole.1 c.lay-other.ensures.lay refl (search rules)
 
-pub earliest_laid-requires : goal.earliest_laid-requires
-earliest_laid-requires c =
-    let p = c.requires in
-    let few = p.x_bound in
-    let lx = c.lay-u.ensures in
-    let ly = c.lay-w.ensures in
-    record {
-      laid = (
-        record {
-          whole = p.whole.0;
-          lay = lx.lay;
-          zones_long = let a = c.zones_x-3-1 in let b = c.zones_x-2-1 in let d = c.zones_x-1 in let e = c.blank-zones_x.ensures in search rules;
-          ends_long = let a = c.ends_x-3-1 in let b = c.ends_x-2-1 in let d = c.ends_x-1 in let e = c.blank-ends_x.ensures in search rules;
-          slots_long = let a = c.slots_x-3-1 in let b = c.slots_x-2-1 in let d = c.slots_x-1 in let e = c.blank-slots_x.ensures in search rules;
-        },
-        record { whole = p.whole.1; lay = ly.lay; zones_long = search rules; ends_long = search rules; slots_long = search rules },
-      );
-      end_rows = c.back.ensures.end_rows;
-      own_value = (lx.value, ly.value);
-      in_bounds = p.in_bounds;
-    }
+pub earliest_laid-requires-clause-laid : goal.earliest_laid-requires-clause-laid
+earliest_laid-requires-clause-laid c =
+    let few = c.requires.x_bound in (
+      laid_part c.args.x.now _ _ c.requires.whole.0 c.lay-own.ensures.lay refl (search rules),
+      laid_part c.args.y.now _ _ c.requires.whole.1 c.lay-other.ensures.lay refl (search rules),
+    )

@@ -4,7 +4,7 @@ use Rattle.common_weighs.proofs.Weighing.{WeighedTo}
 use Rattle.common_weighs.proofs.weigh_all.Given as goal
 
 abbrev pub invariant-loop-base : goal.invariant-loop-base
-invariant-loop-base l = WeighedTo l.y l.rows (set_of l.base) (set_of l.beside) (set_of l.initial.left) l.initial.g (set_of l.left) l.g
+invariant-loop-base l = WeighedTo l.both.y.now l.both.rows.now (set_of l.base) (set_of l.beside) (set_of l.initial.left) l.initial.g (set_of l.left) l.g
 
 abbrev pub decreases-loop-base : goal.decreases-loop-base
 decreases-loop-base l = set_of l.left

@@ -15,22 +15,10 @@ use Rattle.common_writes.proofs.Remains.{stands_after, meeting_after, some_left,
 use Rattle.common_writes.proofs.+write.Goals as goal
 use Rattle.common_writes.proofs.+write.Goals.{After-next-found}
 
-pub may_end-requires : goal.may_end-requires
-may_end-requires t c =
-    let p = c.requires in
-    let sx = p.both_laid.own.laid.whole.short in
-    let sy = p.both_laid.other.laid.whole.short in
-    let u = p.own_value.0 in
-    let w = p.own_value.1 in
-    (omega arith, omega arith)
-
 pub returns-then-may_end : goal.returns-then-may_end
 returns-then-may_end t c =
     let p = c.requires in
-    wrote_end c.args.x.now c.args.y.now _ _ _ _ p.stands.0.closed p.stands.1.closed p.own_value (c.may_end.ensures.so c.if-may_end.true)
-
-pub next-found-requires : goal.next-found-requires
-next-found-requires t c = let r = c.requires.both_laid in record { slotted = (r.own, r.other); end_rows = r.table }
+    wrote_end c.args.both.now.x.now c.args.both.now.y.now _ _ _ _ p.stands.0.closed p.stands.1.closed p.own_value (c.may_end.ensures.so c.if-may_end.true)
 
 -- ---- once the next character is known
 
@@ -41,13 +29,13 @@ module _ (t : ℕ) (c : After-next-found t) where
 
   -- it is a character, and may come
   chosen : (c.next-found.result.code < 256)
-      × MayCome (slot_at (shape_of c.args.x.now)) (slot_at (shape_of c.args.y.now)) (total (shape_of c.args.x.now)) (total (shape_of c.args.y.now)) (Holds (set_of c.args.own.row)) (set_of c.args.other.row) c.next-found.result.code
+      × MayCome (slot_at (shape_of c.args.both.now.x.now)) (slot_at (shape_of c.args.both.now.y.now)) (total (shape_of c.args.both.now.x.now)) (total (shape_of c.args.both.now.y.now)) (Holds (set_of c.args.own.row)) (set_of c.args.other.row) c.next-found.result.code
   chosen =
       let p = c.requires in
-      next_char c.args.x.now c.args.y.now _ _ _ _ p.stands.0.closed p.stands.1.closed p.own_value not_end p.meeting c.next-found.ensures
+      next_char c.args.both.now.x.now c.args.both.now.y.now _ _ _ _ p.stands.0.closed p.stands.1.closed p.own_value not_end p.meeting c.next-found.ensures
 
   some : 1 ≤ c.args.left
-  some = some_left c.args.x.now c.requires.at_most_left.0 chosen.1
+  some = some_left c.args.both.now.x.now c.requires.at_most_left.0 chosen.1
 
   room : 1 ≤ length c.args.out.now
   room = let h = some in let l = c.requires.at_most_left.1 in omega arith
@@ -59,18 +47,18 @@ pub read-first-requires : goal.read-first-requires
 read-first-requires t c =
     let r = c.requires in
     record {
-      slotted = r.both_laid.own;
+      laid = r.both_laid.own;
       code_bound = ((chosen t (goal.at.read-first-requires t c).After-next-found).0, r.stands.0.runs);
-      exactly = again c.args.x.now _ _ r.stands.0.takes;
+      exactly = again c.args.both.now.x.now _ _ r.stands.0.takes;
     }
 
 pub read-second-requires : goal.read-second-requires
 read-second-requires t c =
     let r = c.requires in
     record {
-      slotted = r.both_laid.other;
+      laid = r.both_laid.other;
       code_bound = ((chosen t (goal.at.read-second-requires t c).After-next-found).0, r.stands.1.runs);
-      exactly = again c.args.y.now _ _ r.stands.1.takes;
+      exactly = again c.args.both.now.y.now _ _ r.stands.1.takes;
     }
 
 pub overflow_cast-out : goal.overflow_cast-out
@@ -100,13 +88,12 @@ write-n-requires t c =
     let long = p.at_most_left.1 in
     let l = rest_long c.args.out.now c.next-found.result.code (room t n) in
     let short = subst (λ (k : ℕ). c.args.left - 1 ≤ k) (sym l) (omega arith) in
-    (omega arith, (p.both_laid, (p.own_value, ((stands_after _ own.exactly_2 own.exactly_3 own.run_ends, stands_after _ other.exactly_2 other.exactly_3 other.run_ends), (meeting_after (chosen t n).1 kept own.exactly_3 other.exactly_3, (less_left c.args.x.now p.at_most_left.0 h kept.so own.exactly_3, short))))))
+    (omega arith, (p.both_laid, (p.own_value, ((stands_after _ own.exactly_2 own.exactly_3 own.run_ends, stands_after _ other.exactly_2 other.exactly_3 other.run_ends), (meeting_after (chosen t n).1 kept own.exactly_3 other.exactly_3, (less_left c.args.both.now.x.now p.at_most_left.0 h kept.so own.exactly_3, short))))))
 
 pub overflow_add-result : goal.overflow_add-result
 overflow_add-result t c =
     let h = room t (goal.at.overflow_add-result t c).After-next-found in
     let l = rest_long c.args.out.now c.next-found.result.code h in
-    let bound = c.well_formed.1.1.1.1.1.1.1.1.1.1.1.0 in
     let n = wrote_short c.write-n.ensures c.write-n.auto.out in
     search rules
 
@@ -117,4 +104,4 @@ pub returns : goal.returns
 returns t c =
     let n = (goal.at.returns t c).After-next-found in
     let p = c.requires in
-    wrote_next c.args.x.now c.args.y.now _ _ _ _ p.stands.0.closed p.stands.1.closed p.own_value (not_end t n) c.args.out.now c.write-n.new.out (room t n) c.next-found.ensures c.read-first.ensures.exactly_3 c.read-second.ensures.exactly_3 c.write-n.ensures
+    wrote_next c.args.both.now.x.now c.args.both.now.y.now _ _ _ _ p.stands.0.closed p.stands.1.closed p.own_value (not_end t n) c.args.out.now c.write-n.new.out (room t n) c.next-found.ensures c.read-first.ensures.exactly_3 c.read-second.ensures.exactly_3 c.write-n.ensures

@@ -4,9 +4,6 @@ use Rattle.sets.specs.Set.{set_of}
 use Rattle.row_paths.proofs.Chars.{taken_last, gathered_last}
 use Rattle.equal_back.proofs.at_end.Goals as goal
 
-pub with_number-requires : goal.with_number-requires
-with_number-requires c = c.requires.n_bound
-
 pub returns : goal.returns
 returns c =
     let t = c.tail_of-t.ensures in

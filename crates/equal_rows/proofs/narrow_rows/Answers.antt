@@ -1,57 +1,41 @@
--- `equal_rows::narrow_rows`: the last row of the first pass tells whether there is a pair. Assumes nothing.
-use native.Mathlib.Omega.{arith}
-use Rattle.equal_rows.proofs.Equal.{joined_of, says_none, says_some}
-use borrow.Author.Rules.{rules}
+-- `equal_rows::narrow_rows`: the last row of the first pass tells whether there is a pair; each block of both sides is
+-- then what the two passes tell of it. Assumes nothing.
+use Rattle.std.proofs.Common.{◌≤◌, ◌/◌, length, refl, arith}
+use Rattle.shapes.specs.Shape.{block_size}
+use Rattle.row_paths.proofs.Laid.{laid_part}
+use Rattle.pads.proofs.Paths.{turn_pad}
+use Rattle.equal_rows.proofs.Equal.{joined_of, lengths, both_of, says_none, says_some}
 use Rattle.equal_rows.proofs.narrow_rows.Goals as goal
 
-pub forth-last-requires : goal.forth-last-requires
-forth-last-requires c =
-    let s = c.requires in
-    let w = s.roomed in
-    record {
-      whole = s.whole;
-      lay = c.lay-m.ensures.lay;
-      y_bound = (search rules, search rules, search rules);
-      x_bound = (w.mines_long, w.rows_long);
-    }
-
-pub has-requires : goal.has-requires
-has-requires c = let m = c.lay-m.ensures.value in let short = c.requires.whole.1.short in omega arith
+pub forth-last-requires-clause-laid : goal.forth-last-requires-clause-laid
+forth-last-requires-clause-laid g c =
+    let room : length c.args.y.now / block_size ≤ length c.lay-m.new.layout = omega arith in
+    laid_part c.args.y.now _ _ c.requires.whole.1 c.lay-m.ensures.lay refl room
 
 pub returns-then-not-has : goal.returns-then-not-has
-returns-then-not-has c =
+returns-then-not-has g c =
     let s = c.requires in
     says_none s.whole.0 s.whole.1 c.forth-last.ensures.pass c.lay-m.ensures.value (c.has.ensures.not_so c.if-not-has.true)
 
-pub narrow_live-requires : goal.narrow_live-requires
-narrow_live-requires c =
-    let s = c.requires in
-    let w = s.roomed in
-    let t = c.forth-last.ensures in
-    let mines = w.mines_long in
-    let rows = w.rows_long in
-    let long = t.mines_len_unchanged.0 in
-    let as_long = t.mines_len_unchanged.1 in
-    let lay = c.lay-m.ensures in
-    let joined = joined_of t.pass lay.value (c.has.ensures.so c.if-not-has.false) in
-    record {
-      whole = s.whole;
-      roomed = record { zones_long = search rules; ends_long = search rules; slots_long = search rules; mines_long = omega arith; rows_long = omega arith; own_long = w.own_long; others_long = w.others_long };
-      x_in_bounds = s.x_in_bounds;
-      lay = lay.lay;
-      pass = t.pass;
-      pad_path = joined;
-      others_value = s.others_value;
-    }
+pub back-told-requires-clause-laid : goal.back-told-requires-clause-laid
+back-told-requires-clause-laid g c =
+    let room : length c.args.y.now / block_size ≤ length c.lay-m.new.layout = omega arith in
+    laid_part c.args.y.now _ _ c.requires.whole.1 c.lay-m.ensures.lay refl room
 
-pub shape_of-zones : goal.shape_of-zones
-shape_of-zones c = c.zones-1.given
+pub narrow_blocks-requires-clause-some_length : goal.narrow_blocks-requires-clause-some_length
+narrow_blocks-requires-clause-some_length g c =
+    let joined = joined_of c.forth-last.ensures.pass c.lay-m.ensures.value (c.has.ensures.so c.if-not-has.false) in
+    lengths c.requires.whole.0 c.requires.whole.1 joined c.back-told.ensures.side_told
 
-pub shape_of-ends : goal.shape_of-ends
-shape_of-ends c = c.ends-1.given
-
-pub shape_of-slots : goal.shape_of-slots
-shape_of-slots c = c.slots-1.given
+pub narrow_blocks-requires-2-clause-some_length : goal.narrow_blocks-requires-2-clause-some_length
+narrow_blocks-requires-2-clause-some_length g c =
+    let joined = joined_of c.forth-last.ensures.pass c.lay-m.ensures.value (c.has.ensures.so c.if-not-has.false) in
+    lengths c.requires.whole.1 c.requires.whole.0 (turn_pad joined) c.back-told.ensures.side_told_2
 
 pub returns : goal.returns
-returns c = says_some c.narrow_live.ensures
+returns g c =
+    let s = c.requires in
+    let t = c.back-told.ensures in
+    let joined = joined_of c.forth-last.ensures.pass c.lay-m.ensures.value (c.has.ensures.so c.if-not-has.false) in
+    says_some (both_of s.whole.0 s.whole.1 joined s.x_in_bounds.0 s.x_in_bounds.1 t.side_told t.side_told_2 c.narrow_blocks.ensures c.narrow_blocks-2.ensures
+    (λ k. (c.type_inv.out_x k).fits) (λ k. (c.type_inv.out_y k).fits))

@@ -22,7 +22,7 @@ added c =
     let s = l in
     let xs = s.args.shape.now in
     let back : l.loop-i.i ≡ l.loop-i.i - 1 + 1 = omega arith in
-    let so_far = l.loop-i.invariant.2 ∙ ap (λ (m : ℕ). length (text_from s.args.d xs m)) back in
+    let so_far = l.loop-i.invariant.1 ∙ ap (λ (m : ℕ). length (text_from s.args.d xs m)) back in
     let more = run_counted s.args.d xs (l.loop-i.i - 1) (l.loop-i.i - 1 + 1) c.choose-k.result c.choose-k.ensures.i_value in
     let grown = more.0 in
     let short = more.1 in
@@ -33,7 +33,7 @@ pub loop-i-init : goal.loop-i-init
 loop-i-init c =
     let d = c.args.d in
     let xs = c.args.shape.now in
-    (omega arith, c.codes_below-below.ensures ∙ ap codes_below (successor_end d xs), sym (ap length (text_end d xs)))
+    (c.codes_below-below.ensures ∙ ap codes_below (successor_end d xs), sym (ap length (text_end d xs)))
 
 pub choose-k-requires : goal.choose-k-requires
 choose-k-requires c =
@@ -43,7 +43,7 @@ choose-k-requires c =
     record {
       accepted = s.requires;
       i_bound = omega arith;
-      below_value = l.loop-i.invariant.1 ∙ ap (λ (m : ℕ). codes_below (successor s.args.d (drop m (shape_of s.args.shape.now)))) back;
+      below_value = l.loop-i.invariant.0 ∙ ap (λ (m : ℕ). codes_below (successor s.args.d (drop m (shape_of s.args.shape.now)))) back;
     }
 
 pub overflow_cast-sum : goal.overflow_cast-sum
@@ -53,11 +53,11 @@ pub overflow_add-sum : goal.overflow_add-sum
 overflow_add-sum c = let b = (added (goal.at.overflow_add-sum c).After-choose-k).1 in omega arith
 
 pub loop-i-preserved : goal.loop-i-preserved
-loop-i-preserved c = let k = c in (omega arith, c.codes_onward-below.ensures ∙ k.choose-k.ensures.below_value_2, (added (goal.at.loop-i-preserved k).After-choose-k).0)
+loop-i-preserved c = let k = c in (c.codes_onward-below.ensures ∙ k.choose-k.ensures.below_value_2, (added (goal.at.loop-i-preserved k).After-choose-k).0)
 
 pub returns : goal.returns
 returns c =
     let l = c.loop-i in
     let s = c in
     let first : l.i ≡ 0 = omega arith in
-    l.invariant.2 ∙ ap (λ (m : ℕ). length (text_from s.args.d s.args.shape.now m)) first
+    l.invariant.1 ∙ ap (λ (m : ℕ). length (text_from s.args.d s.args.shape.now m)) first

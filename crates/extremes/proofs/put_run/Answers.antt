@@ -5,7 +5,5 @@ use Rattle.extremes.proofs.put_run.Goals as goal
 
 pub returns : goal.returns
 returns c =
-    let t = c in
-    let s = t in
-    let a = s.args in
-    put_some a.at a.k.count (char_in a.k.successor) t.char_in-c.result a.out.now c.fill.new.part s.requires t.char_in-c.ensures c.fill.ensures
+    let a = c.args in
+    put_some a.at a.k.count (char_in a.k.successor) c.char_in.result a.out.now c.fill.new.self c.requires c.char_in.ensures (c.fill.ensures.after (λ y e. e))

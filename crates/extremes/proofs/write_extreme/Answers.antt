@@ -1,5 +1,5 @@
 -- `extremes::write_extreme`: the text from block i on stands in its place, before the text's end. Assumes nothing.
-use mathlib.Core.Path.{◌≡◌, refl, ap, ◌∙◌, subst}
+use mathlib.Core.Path.{◌≡◌, ap, ◌∙◌, subst}
 use mathlib.Core.List.{◌++◌}
 use Prim.Native.Nat.{ℕ, ◌+◌, ◌-◌, ◌≤◌}
 use native.Mathlib.Omega.{arith}
@@ -44,7 +44,7 @@ fits c =
     let more = run_counted a.d a.shape.now (l.loop-i.i - 1) l.loop-i.i c.choose-k.result (front c) in
     let grown = more.0 in
     let short = more.1 in
-    let ends = l.loop-i.invariant.3.ends in
+    let ends = l.loop-i.invariant.1.ends in
     let e = long (goal.at.After-choose-k l).After-length_of-n in
     let r = room (goal.at.After-choose-k l).After-length_of-n in
     (omega arith, omega arith)
@@ -56,7 +56,7 @@ pub loop-i-init : goal.loop-i-init
 loop-i-init c =
     let o = c in
     let a = o.args in
-    (omega arith, c.codes_below-below.ensures ∙ ap codes_below (successor_end a.d a.shape.now), refl, stands_none o.length_of-n.result a.out.now (text_end a.d a.shape.now))
+    (c.codes_below-below.ensures ∙ ap codes_below (successor_end a.d a.shape.now), stands_none o.length_of-n.result a.out.now (text_end a.d a.shape.now))
 
 pub choose-k-requires : goal.choose-k-requires
 choose-k-requires c =
@@ -66,7 +66,7 @@ choose-k-requires c =
     record {
       accepted = s.requires.accepted;
       i_bound = omega arith;
-      below_value = l.loop-i.invariant.1 ∙ ap (λ (m : ℕ). codes_below (successor s.args.d (drop m (shape_of s.args.shape.now)))) back;
+      below_value = l.loop-i.invariant.0 ∙ ap (λ (m : ℕ). codes_below (successor s.args.d (drop m (shape_of s.args.shape.now)))) back;
     }
 
 pub overflow_cast-at : goal.overflow_cast-at
@@ -81,7 +81,7 @@ put_run-requires c =
     let l = k in
     let f = (fits (goal.at.put_run-requires k).After-choose-k).0 in
     let h = (fits (goal.at.put_run-requires k).After-choose-k).1 in
-    let same = l.loop-i.invariant.2 in
+    let same = l.loop-i.auto.out in
     let wide = l.requires.in_bounds in
     omega arith
 
@@ -92,14 +92,9 @@ loop-i-preserved c =
     let l = k in
     let r = room (goal.at.loop-i-preserved l).After-length_of-n in
     let wide = l.requires.in_bounds in (
-      omega arith,
       c.codes_onward-below.ensures ∙ k.choose-k.ensures.below_value_2,
-      p.put_run.auto.out ∙ l.loop-i.invariant.2,
-      stands_more l.loop-i.at l.length_of-n.result k.choose-k.result l.loop-i.invariant.3 (omega arith) (fits (goal.at.loop-i-preserved k).After-choose-k).0 (front (goal.at.loop-i-preserved k).After-choose-k) p.put_run.ensures,
+      stands_more l.loop-i.at l.length_of-n.result k.choose-k.result l.loop-i.invariant.1 (omega arith) (fits (goal.at.loop-i-preserved k).After-choose-k).0 (front (goal.at.loop-i-preserved k).After-choose-k) p.put_run.ensures,
     )
-
-pub shape_of-out : goal.shape_of-out
-shape_of-out c = c.loop-i.invariant.2
 
 pub returns : goal.returns
 returns c =
@@ -108,7 +103,7 @@ returns c =
     let s = o in
     let first : l.i ≡ 0 = omega arith in
     let whole : StandsIn l.at o.length_of-n.result (extreme s.args.d (shape_of s.args.shape.now)) s.args.out.now l.out
-    = subst (λ (m : ℕ). StandsIn l.at o.length_of-n.result (text_from s.args.d s.args.shape.now m) s.args.out.now l.out) first l.invariant.3 in
+    = subst (λ (m : ℕ). StandsIn l.at o.length_of-n.result (text_from s.args.d s.args.shape.now m) s.args.out.now l.out) first l.invariant.1 in
     let ends = whole.ends in
     let e = long (goal.at.returns o).After-length_of-n in
     let start : l.at ≡ 0 = omega arith in

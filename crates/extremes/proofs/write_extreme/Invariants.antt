@@ -1,8 +1,7 @@
 -- `extremes::write_extreme`: the text from block i on stands in its place, before the text's end. Assumes nothing.
 use mathlib.Core.Path.{◌≡◌}
-use Prim.Native.Nat.{◌-◌, ◌≤◌}
-use lib.ListN.{length, drop}
-use Rattle.shapes.specs.Shape.{block_count}
+use Prim.Native.Nat.{◌-◌}
+use lib.ListN.{drop}
 use Rattle.shapes.specs.Lent.{shape_of}
 use Rattle.extreme_steps.specs.Steps.{successor}
 use Rattle.extreme_steps.specs.Code.{codes_below, text_from}
@@ -11,7 +10,4 @@ use Rattle.extremes.proofs.write_extreme.Given as goal
 
 abbrev pub invariant-loop-i : goal.invariant-loop-i
 invariant-loop-i l =
-    (l.i ≤ block_count l.shape) × (l.below ≡ codes_below (successor l.d (drop l.i (shape_of l.shape)))) × (length l.out ≡ length l.initial.out) × StandsIn l.at l.n (text_from l.d l.shape l.i) l.initial.out l.out
-
-abbrev pub decreases-loop-i : goal.decreases-loop-i
-decreases-loop-i l = l.i
+    (l.below ≡ codes_below (successor l.d (drop l.i (shape_of l.shape)))) × StandsIn l.at l.n (text_from l.d l.shape l.i) l.initial.out l.out

@@ -12,6 +12,3 @@ abbrev pub invariant-loop-i : goal.invariant-loop-i
 invariant-loop-i l =
     (l.i ≤ l.words) × (length l.out ≡ length l.initial.out) × (l.end ≡ l.at + (l.words - l.i) * word_digits)
     × Wrote l.initial.out l.at (digits 16 ((l.words - l.i) * word_digits) (set_of l.base / 2 ^ (l.i * 64))) l.out l.end
-
-abbrev pub decreases-loop-i : goal.decreases-loop-i
-decreases-loop-i l = l.i

@@ -15,9 +15,9 @@ use Rattle.file_reports.proofs.put_group.Goals.{Start}
 twenty-of : (s : Start) → s.args.text.group ≤ s.args.k + 1 → length (decimal s.args.text.group) ≤ 20
 twenty-of s e = let few = s.requires.k_lt_most_texts in twenty s.args.text.group (omega arith)
 
-pub returns-then-group-k : goal.returns-then-group-k
-returns-then-group-k c = record {
-  group_put = passed c.if-group-k.true refl refl;
+pub returns-then-text-k : goal.returns-then-text-k
+returns-then-text-k c = record {
+  group_put = passed c.if-text-k.true refl refl;
   upper_bound = omega arith;
 }
 
@@ -27,7 +27,7 @@ put_decimal-b-requires c =
     let p = c.put_bytes-a.ensures.value in
     let k = c.put_bytes-a.auto.out in
     let room = s.requires.group_room_in_bounds in
-    let name = c.if-group-k.false in
+    let name = c.if-text-k.false in
     let t = twenty-of (goal.at.put_decimal-b-requires s).Start (omega arith) in
     omega arith
 
@@ -39,7 +39,7 @@ put_ended-requires c =
     let q = c.put_decimal-b.ensures.value in
     let l = c.put_decimal-b.auto.out in
     let room = s.requires.group_room_in_bounds in
-    let name = c.if-group-k.false in
+    let name = c.if-text-k.false in
     let t = twenty-of (goal.at.put_ended-requires s).Start (omega arith) in
     omega arith
 
@@ -56,7 +56,7 @@ returns c =
     let p = one.ensures.value in
     let q = two.ensures.value in
     let r = three.ensures.upper_bound in
-    let name = c.if-group-k.false in
+    let name = c.if-text-k.false in
     let t = twenty-of (goal.at.returns s).Start (omega arith) in
     record {
       group_put = named name

@@ -1,5 +1,7 @@
 -- `file_reports::write_ran`: the groups and the sheet. Assumes nothing.
 use native.Mathlib.Omega.{arith}
+use lib.ListN.{length-take}
+use Rattle.answers.specs.declared.TextRan.{TextRan}
 use Rattle.file_lines.specs.Book.{sheet_of}
 use Rattle.file_reports.specs.Report.{head_of, sheet_after, report_of}
 use Rattle.file_reports.specs.Report.Verdict.{ran}
@@ -22,6 +24,6 @@ returns c =
     record {
       groups = put.groups;
       listed = put.listed;
-      reported = reported (ran put.groups (sheet_of a.width a.counts.now a.blocks.now)) _ _ _ room (omega arith)
+      reported = reported (ran put.groups (sheet_of a.width a.counts.now a.blocks.now)) _ _ _ room (omega (arith, length-take {A = TextRan}))
           (put_then a.out.now 0 _ _ _ _ _ _ put.wrote two.ensures.wrote);
     }

@@ -6,30 +6,24 @@ use lib.ListN.{length, get_or, length-set}
 use Rattle.sets.specs.Set.{Exactly}
 use Rattle.find_borders.specs.Borders.{SameAt, Sames}
 use Rattle.find_borders.proofs.Collect.{words_more}
-use borrow.Author.Rules.{rules}
 use Rattle.find_borders.proofs.lay_sames.Goals as goal
 
 pub loop-r-init : goal.loop-r-init
-loop-r-init c = let p = c.requires in (search rules, p.0, p.1, λ r l. absurd (omega arith))
-
-pub same-requires : goal.same-requires
-same-requires c = c.loop-r.invariant.1
+loop-r-init c = (c.requires.1, λ r l. absurd (omega arith))
 
 pub offset_bounds-sames-r : goal.offset_bounds-sames-r
-offset_bounds-sames-r c = let s = c.loop-r.invariant.1.few in omega arith
+offset_bounds-sames-r c = let s = c.requires.0.few in omega arith
 
 pub bounds-sames-r : goal.bounds-sames-r
-bounds-sames-r c = let s = c.loop-r.invariant.1.few in omega arith
+bounds-sames-r c = let s = c.requires.0.few in omega arith
 
 pub loop-r-preserved : goal.loop-r-preserved
 loop-r-preserved c =
     let l = c.loop-r in
     let mark = c.args.mark.now in
-    let few = l.invariant.1.few in (
-      omega arith,
-      l.invariant.1,
-      length-set l.sames l.r c.same.result ∙ l.invariant.2,
-      words_more (λ r w. Exactly w (SameAt mark (get_or mark r 0))) l.sames l.r c.same.result (let n = l.invariant.2 in omega arith) l.invariant.3 c.same.ensures,
+    let few = c.requires.0.few in (
+      length-set l.sames l.r c.same.result ∙ l.invariant.0,
+      words_more (λ r w. Exactly w (SameAt mark (get_or mark r 0))) l.sames l.r c.same.result (let n = l.invariant.0 in omega arith) l.invariant.1 c.same.ensures,
     )
 
 pub returns : goal.returns
@@ -37,4 +31,4 @@ returns c =
     let l = c.loop-r in
     let mark = c.args.mark.now in
     let e : l.r ≡ length mark = omega arith in
-    (subst (λ (k : ℕ). Sames mark k l.sames) e l.invariant.3, l.invariant.2)
+    (subst (λ (k : ℕ). Sames mark k l.sames) e l.invariant.1, l.invariant.0)

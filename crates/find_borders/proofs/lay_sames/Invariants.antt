@@ -1,12 +1,9 @@
 -- `find_borders::lay_sames`: one word more each turn. Assumes nothing.
 use mathlib.Core.Path.{◌≡◌}
-use Prim.Native.Nat.{◌-◌, ◌≤◌}
+use Prim.Native.Nat.{◌-◌}
 use lib.ListN.{length}
-use Rattle.find_borders.specs.Borders.{ShortMark, Sames}
+use Rattle.find_borders.specs.Borders.{Sames}
 use Rattle.find_borders.proofs.lay_sames.Given as goal
 
 abbrev pub invariant-loop-r : goal.invariant-loop-r
-invariant-loop-r l = (l.r ≤ length l.mark) × ShortMark l.mark × (length l.sames ≡ 64) × Sames l.mark l.r l.sames
-
-abbrev pub decreases-loop-r : goal.decreases-loop-r
-decreases-loop-r l = length l.mark - l.r
+invariant-loop-r l = (length l.sames ≡ 64) × Sames l.mark l.r l.sames

@@ -1,18 +1,8 @@
--- `find_borders::same`: one character more each turn. Assumes nothing.
-use native.Mathlib.Omega.{arith}
-use Prim.Native.Nat.{◌-◌}
-use Rattle.find_borders.proofs.Collect.{collect_none, collect_more, collect_end}
+-- `find_borders::same`: a test of each character. Assumes nothing.
 use borrow.Author.Rules.{rules}
+use borrow.Author.Tests.{eqb-true, eqb-false}
+use Rattle.find_borders.proofs.Collect.{collected}
 use Rattle.find_borders.proofs.same.Goals as goal
 
-pub loop-j-init : goal.loop-j-init
-loop-j-init c = (search rules, c.requires, collect_none _ (λ e l. absurd (omega arith)))
-
-pub add_if-w-requires : goal.add_if-w-requires
-add_if-w-requires c = let s = c.loop-j.invariant.1.few in omega arith
-
-pub loop-j-preserved : goal.loop-j-preserved
-loop-j-preserved c = let l = c.loop-j in (omega arith, l.invariant.1, collect_more _ l.invariant.2 c.is_char.ensures c.add_if-w.ensures)
-
 pub returns : goal.returns
-returns c = collect_end _ (omega arith) c.loop-j.invariant.2
+returns c = collected c.numbers.ensures (λ q r l p. record { so = λ e. eqb-true _ _ (search rules); not_so = λ e. eqb-false _ _ (search rules) })

@@ -22,7 +22,7 @@ returns-then-t-eq0 c = λ was u alive.
     let s = c in
     let z = c.if-t-eq0.true in
     let a = s.args in
-    let mark = a.mark.now in
+    let mark = a.mark.text.now in
     let base = set_of a.ways.base in
     subst (λ (n : ℕ). Exactly (set_of c.up.result) (Arrived mark base was n)) (sym z)
     (arrived_none mark base was a.rows.now alive (subst (λ (n : ℕ). Underway was a.rows.now n (set_of a.last)) z u) s.requires.fall_words.1.resets c.gather.ensures c.up.ensures)
@@ -35,7 +35,7 @@ unfolding Holds
 returns-then-ways-t-ne1 c = λ was u alive.
     let s = c in
     let a = s.args in
-    let mark = a.mark.now in
+    let mark = a.mark.text.now in
     let base = set_of a.ways.base in
     let some : 0 < a.t = omega arith in
     let small : a.t - 1 < length mark = let l = s.requires.short_mark.1 in omega arith in
@@ -44,18 +44,18 @@ returns-then-ways-t-ne1 c = λ was u alive.
     (arrived_not mark base was a.rows.now alive (a.t - 1) small (to-next (λ n. Underway was a.rows.now n (set_of a.last)) some u)
     (λ h. not (s.requires.fall_words.1.allowed.has (a.t - 1) (small, h))) c.none.ensures)
 
-pub offset_bounds-falls-t : goal.offset_bounds-falls-t
-offset_bounds-falls-t c = let p = c.requires.short_mark in let f = p.0.few in let l = p.1 in omega arith
+pub offset_bounds-mark-t : goal.offset_bounds-mark-t
+offset_bounds-mark-t c = let p = c.requires.short_mark in let f = p.0.few in let l = p.1 in omega arith
 
-pub bounds-falls-t : goal.bounds-falls-t
-bounds-falls-t c = let p = c.requires.short_mark in let f = p.0.few in let l = p.1 in omega arith
+pub bounds-mark-t : goal.bounds-mark-t
+bounds-mark-t c = let p = c.requires.short_mark in let f = p.0.few in let l = p.1 in omega arith
 
 pub returns : goal.returns
 unfolding Holds
 returns c = λ was u alive.
     let s = c in
     let a = s.args in
-    let mark = a.mark.now in
+    let mark = a.mark.text.now in
     let base = set_of a.ways.base in
     let some : 0 < a.t = omega arith in
     let small : a.t - 1 < length mark = let l = s.requires.short_mark.1 in omega arith in

@@ -13,8 +13,5 @@ none-live w q z h = none_in_zero q (subst (λ (x : ℕ). Holds x q) z h)
 pub returns-then-live-eq0 : goal.returns-then-live-eq0
 returns-then-live-eq0 c = (omega arith, λ t q l m h. absurd (none-live _ q c.if-live-eq0.true h))
 
-pub returns-then-m-end : goal.returns-then-m-end
-returns-then-m-end c = (omega arith, λ t q l m h. absurd (omega arith))
-
 pub returns : goal.returns
-returns c = (omega arith, λ t q l m h. let g = c.highest-end.ensures.0.greatest q h in omega arith)
+returns c = (omega arith, λ t q l m h. let g = c.highest.ensures.0.greatest q h in omega arith)

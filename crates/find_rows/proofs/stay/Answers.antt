@@ -10,5 +10,5 @@ returns-then-keep c =
     let t = c.if-keep.true in
     exactly_as (λ k h. ⊎_elim (λ i. inl i) (λ i. inr (t, i)) h) (λ k h. ⊎_elim (λ i. inl i) (λ i. inr i.1) h) (either_exactly _ _ c.either.ensures)
 
-pub returns : goal.returns
-returns c = record { so = λ k h. inl h; has = λ k h. ⊎_elim (λ i. i) (λ i. absurd (true≢false (sym i.0 ∙ c.if-keep.false))) h }
+pub returns-else-keep : goal.returns-else-keep
+returns-else-keep c = record { so = λ k h. inl h; has = λ k h. ⊎_elim (λ i. i) (λ i. absurd (true≢false (sym i.0 ∙ c.if-keep.false))) h }

@@ -1,14 +1,12 @@
 -- `find_ways::seen_at`: the mark's next character, and those of the longest shorter border. Assumes nothing.
-use mathlib.Core.Path.{◌≡◌, ◌∙◌, ap, subst}
+use mathlib.Core.Path.{◌≡◌, subst}
 use Prim.Native.Nat.{ℕ}
 use native.Mathlib.Omega.{arith}
-use lib.Bits.{bit_or}
 use lib.ListN.{get_or}
 use Rattle.sets.specs.Set.{set_of, Exactly}
 use Rattle.find_texts.proofs.State.{ends_none}
 use Rattle.find_ways.specs.Ways.{Continued}
 use Rattle.find_ways.proofs.Leads.{first_continued, more_continued}
-use borrow.Author.Rules.{rules}
 use Rattle.find_ways.proofs.seen_at.Goals as goal
 
 pub overflow_cast-mark : goal.overflow_cast-mark
@@ -31,17 +29,9 @@ greatest_below-requires c =
     let l = s.requires.short_mark.1 in
     (omega arith, omega arith, s.requires.exactly.0.has 0 (record { few = omega arith; ends = ends_none _ }))
 
-pub row_at-requires : goal.row_at-requires
-row_at-requires c =
-    let b = c.greatest_below.ensures.below in
-    let s = c in
-    let few = s.requires.short_mark.0.few in
-    let l = s.requires.short_mark.1 in
-    search rules
-
 pub returns : goal.returns
 returns c =
     let s = c in
     let g = c.greatest_below.ensures in
     more_continued s.args.mark.now s.args.q s.requires.short_mark.1 s.requires.exactly.0 g c.single-own.ensures (s.requires.exactly.1 _ g.below)
-    (c.either.ensures ∙ ap (bit_or (set_of c.single-own.result)) c.row_at.ensures)
+    c.either.ensures

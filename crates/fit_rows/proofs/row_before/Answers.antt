@@ -5,7 +5,5 @@ use Rattle.fit_rows.proofs.row_before.Goals as goal
 
 pub returns : goal.returns
 returns c = λ s t e h w.
-    let few = c.smaller-more.ensures in
-    let mid = c in
-    row_next _ s t _ _ _ _ _ mid.requires.ordered few.0 (λ k l m. few.1 k l (omega arith))
-    h mid.steps-least.ensures c.steps_up_to.ensures w
+    let few = c.min-more.ensures in
+    row_next _ s t _ _ _ _ _ c.requires.ordered (omega arith) (λ k l m. omega arith) h c.steps-least.ensures c.steps_up_to.ensures w

@@ -6,20 +6,16 @@ use lib.ListN.{length}
 use Rattle.sets.specs.Set.{set_of}
 use Rattle.fit_rows.specs.Rows.{Placed, SeenTo}
 use Rattle.fit_tables.proofs.Table.{placed_none, placed_rows}
-use borrow.Author.Rules.{rules}
 use Rattle.fit_tables.proofs.add_places.Goals as goal
 
 pub loop-p-init : goal.loop-p-init
-loop-p-init c = (search rules, refl, placed_none _ _ c.requires.table_value, λ q l. absurd (omega arith))
-
-pub overflow_cast-text : goal.overflow_cast-text
-overflow_cast-text c = omega (arith, c.type_inv.text c.loop-p.p)
+loop-p-init c = (placed_none _ _ c.requires.table_value, λ q l. absurd (omega arith))
 
 pub add_place-seen-requires : goal.add_place-seen-requires
 add_place-seen-requires c =
     let l = c in
     let room = l.requires.text_in_bounds in
-    let same = l.loop-p.invariant.1 in
+    let same = l.loop-p.auto.table in
     record {
       c_lt_codes = omega (arith, c.type_inv.text l.loop-p.p);
       p_in_bounds = omega arith;
@@ -30,10 +26,7 @@ loop-p-preserved c =
     let placed = c.add_place-seen.ensures in
     let l = c in
     let t = l.args.text.now in
-    (omega arith, omega arith, placed.by_index t refl l.loop-p.invariant.2, placed.by_index_2 t refl l.loop-p.invariant.3)
-
-pub shape_of-table : goal.shape_of-table
-shape_of-table c = c.loop-p.invariant.1
+    (placed.by_index t refl l.loop-p.invariant.0, placed.by_index_2 t refl l.loop-p.invariant.1)
 
 pub returns : goal.returns
 returns c =
@@ -43,6 +36,6 @@ returns c =
     let few = s.requires.text_len_bound in
     let end : l.p ≡ length t = omega arith in
     record {
-      places_of = placed_rows t _ (omega arith) (subst (λ (k : ℕ). Placed t k l.table) end l.invariant.2);
-      seen_to = subst (λ (k : ℕ). SeenTo t k (set_of l.seen)) end l.invariant.3;
+      places_of = placed_rows t _ (omega arith) (subst (λ (k : ℕ). Placed t k l.table) end l.invariant.0);
+      seen_to = subst (λ (k : ℕ). SeenTo t k (set_of l.seen)) end l.invariant.1;
     }

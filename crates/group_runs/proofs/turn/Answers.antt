@@ -1,45 +1,28 @@
 -- `group_runs::turn`: the group's run, or the record of the text that names it. Assumes nothing.
-use mathlib.Core.Path.{◌≡◌, refl, sym, ap, ◌∙◌, subst}
+use mathlib.Core.Path.{◌≡◌, ap, subst}
 use mathlib.Core.List.{List}
-use Prim.Native.Nat.{ℕ, ◌+◌, ◌-◌}
+use Prim.Native.Nat.{ℕ, ◌+◌, ◌-◌, ◌<◌}
 use native.Mathlib.Omega.{arith}
 use lib.ListN.{get_or}
-use Rattle.groups.specs.Ends.{text_ran}
-use Rattle.group_names.specs.Names.{TextNumber, name_of}
-use Rattle.group_runs.specs.Turn.{GroupEnded, runs, follows}
+use Rattle.rules.specs.Limits.{most_texts}
+use Rattle.book_steps.specs.Step.{Running}
+use Rattle.group_names.specs.Names.{TextNumber, GroupNames, name_of}
 use Rattle.group_runs.proofs.Turns.{name_number}
 use Rattle.group_runs.proofs.turn.Goals as goal
-use Rattle.group_runs.proofs.turn.Goals.{Start}
 
--- the name of the text at place k stands there
-at_place : (names : List ℕ) (k : ℕ) → name_of names (k + 1) ≡ get_or names k 0
-at_place names k = let back : k + 1 - 1 ≡ k = omega arith in ap (λ (j : ℕ). get_or names j 0) back
+-- the name of the text at place k is the number of a text
+its_name : {counts xs rules names : List ℕ} {k : ℕ} → Running counts xs rules → GroupNames rules names → k < most_texts → TextNumber (get_or names k 0)
+its_name {names = names} {k = k} r g few =
+    let at : name_of names (k + 1) ≡ get_or names k 0 = ap (λ (j : ℕ). get_or names j 0) (let back : k + 1 - 1 ≡ k = omega arith in back) in
+    subst TextNumber at (name_number r g (record { from_one = omega arith; most = omega arith }))
 
--- it is the number of a text
-its-name : (s : Start) → TextNumber (get_or s.args.names.now s.args.k 0)
-its-name s =
-    let few = s.requires.k_lt_most_texts in
-    subst TextNumber (at_place s.args.names.now s.args.k) (name_number s.requires.running s.requires.group_names (record { from_one = omega arith; most = omega arith }))
+pub overflow_sub-result : goal.overflow_sub-result
+overflow_sub-result c = (its_name c.requires.running c.requires.group_names c.requires.k_lt_most_texts).from_one
 
-pub returns-then-name-k : goal.returns-then-name-k
-returns-then-name-k c =
-    let a = c.args in
-    let name = c.if-name-k.true in
-    let q = c.run_group-ended in
-    runs (at_place a.names.now a.k ∙ name) name
-    (subst (λ (g : ℕ). GroupEnded a.counts.now a.rules.now g a.blocks.now q.new.blocks q.result) name q.ensures)
+pub offset_bounds-texts-name : goal.offset_bounds-texts-name
+offset_bounds-texts-name c =
+    let n = its_name c.requires.running c.requires.group_names c.requires.k_lt_most_texts in let most = n.most in omega arith
 
-pub overflow_sub-at : goal.overflow_sub-at
-overflow_sub-at c = let n = its-name (goal.at.overflow_sub-at c).Start in let one = n.from_one in omega arith
-
-pub offset_bounds-texts-at : goal.offset_bounds-texts-at
-offset_bounds-texts-at c = let n = its-name (goal.at.offset_bounds-texts-at c).Start in let one = n.from_one in let most = n.most in omega arith
-
-pub bounds-texts-at : goal.bounds-texts-at
-bounds-texts-at c = let n = its-name (goal.at.bounds-texts-at c).Start in let one = n.from_one in let most = n.most in omega arith
-
-pub returns : goal.returns
-returns c =
-    let a = c.args in
-    follows (λ e. c.if-name-k.false (sym (at_place a.names.now a.k) ∙ e)) refl
-    (ap (text_ran a.texts) (sym (at_place a.names.now a.k)))
+pub bounds-texts-name : goal.bounds-texts-name
+bounds-texts-name c =
+    let n = its_name c.requires.running c.requires.group_names c.requires.k_lt_most_texts in let one = n.from_one in let most = n.most in omega arith

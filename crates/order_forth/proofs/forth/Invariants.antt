@@ -1,12 +1,8 @@
 -- `order_forth::forth`: each row is the closure of the row before, one character on; past an empty row there is none.
 -- Assumes nothing.
-use Prim.Native.Nat.{◌-◌}
 use Rattle.sets.specs.Set.{set_of}
 use Rattle.order_forth.specs.Forth.{ForthTo}
 use Rattle.order_forth.proofs.forth.Given as goal
 
 abbrev pub invariant-loop-q : goal.invariant-loop-q
-invariant-loop-q l = ForthTo l.x l.slots l.text l.m l.k l.rows (set_of l.row) (set_of l.mask) l.q
-
-abbrev pub decreases-loop-q : goal.decreases-loop-q
-decreases-loop-q l = l.m - l.q
+invariant-loop-q l = ForthTo l.x l.layout l.text l.rows (set_of l.row) (set_of l.mask) l.q

@@ -4,10 +4,4 @@ use Rattle.order_forth.proofs.Pass.{same_mask}
 use Rattle.order_forth.proofs.next_mask.Goals as goal
 
 pub returns-then-text-q : goal.returns-then-text-q
-returns-then-text-q c =
-    let i = c in
-    let s = i in
-    same_mask (next_same _ _ _ s.requires.plain.0 i.if-q-gt0.true s.requires.plain.1 c.if-text-q.true) (s.requires.exactly i.if-q-gt0.true)
-
-pub returns : goal.returns
-returns c = same_mask c.same_at.ensures c.matching.ensures
+returns-then-text-q c = same_mask (next_same _ _ c.if-q-gt0.true c.requires.within c.if-text-q.true) (c.requires.exactly c.if-q-gt0.true)

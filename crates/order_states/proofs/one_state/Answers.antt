@@ -6,12 +6,10 @@ use Rattle.order_states.proofs.one_state.Goals as goal
 
 pub returns : goal.returns
 returns c =
-    let b = c in
-    let t = b in
-    let s = t.args in
-    let closed = b.back_by-c.ensures in
+    let a = c.args in
+    let closed = c.back_by-c.ensures in
     record {
-      holds = λ X G U q z g v o. pass_state (set_of s.clear) (set_of s.s.same) (set_of s.s.apart) (set_of s.s.over) (set_of s.row) q z g v o
-          b.down.ensures b.both-stay.ensures b.either.ensures closed.exactly closed.exactly_2
+      holds = λ X G U q z g v o. pass_state (set_of a.clear) (set_of a.s.same) (set_of a.s.apart) (set_of a.s.over) (set_of a.row) q z g v o
+          c.down.ensures c.both-stay.ensures c.either.ensures closed.exactly closed.exactly_2
           c.both.ensures c.both-2.ensures c.both-3.ensures;
     }

@@ -9,12 +9,7 @@ returns-then-not-meets c = before_apart (c.meets.ensures.not_so c.if-not-meets.t
 
 pub returns-then-padded : goal.returns-then-padded
 returns-then-padded c =
-    let o = c in
-    let m = o in
-    before_padded (m.meets.ensures.so o.if-not-meets.false) c.either-then-padded.ensures o.if-padded.true c.either.ensures c.either-then-padded-2.ensures
+    before_padded (c.meets.ensures.so c.if-not-meets.false) c.either-quit.ensures c.if-padded.true c.either.ensures c.either-then-padded.ensures
 
 pub returns : goal.returns
-returns c =
-    let o = c in
-    let m = o in
-    before_bare (m.meets.ensures.so o.if-not-meets.false) c.either-3.ensures o.if-padded.false c.either-2.ensures refl
+returns c = before_bare (c.meets.ensures.so c.if-not-meets.false) c.either-quit.ensures c.if-padded.false c.either-2.ensures refl

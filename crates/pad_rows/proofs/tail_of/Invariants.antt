@@ -1,6 +1,5 @@
 -- `pad_rows::tail_of`: before each block the rows have all from its start on, since a block leads on exactly if its end
 -- does. Assumes nothing.
-use Prim.Native.Nat.{◌-◌, ◌≤◌}
 use Rattle.sets.specs.Set.{set_of}
 use Rattle.shapes.specs.Shape.{total}
 use Rattle.shapes.specs.Lent.{shape_of}
@@ -10,8 +9,4 @@ use Rattle.pad_rows.proofs.Back.{TailsFrom}
 use Rattle.pad_rows.proofs.tail_of.Given as goal
 
 abbrev pub invariant-loop-j : goal.invariant-loop-j
-invariant-loop-j l =
-    (l.j ≤ l.k) × TailsFrom (padded_at (set_of l.pad) (shape_of l.y)) (set_of l.pad) (total (shape_of l.y)) (start (shape_of l.y) l.j) l.t
-
-abbrev pub decreases-loop-j : goal.decreases-loop-j
-decreases-loop-j l = l.j
+invariant-loop-j l = TailsFrom (padded_at (set_of l.pad) (shape_of l.y)) (set_of l.pad) (total (shape_of l.y)) (start (shape_of l.y) l.j) l.t

@@ -1,16 +1,11 @@
--- `row_steps::joined_wide`: the bases picked among the blocks before j, and that of j where its row meets the row.
+-- `row_steps::joined_wide`: the bases picked among the blocks before j, and that of j where its positions meet the row.
 -- Assumes nothing.
-use Prim.Native.Nat.{◌-◌, ◌≤◌}
 use Rattle.bases.specs.Base.{Meets}
 use Rattle.sets.specs.Set.{set_of, Exactly}
 use Rattle.shapes.specs.Lent.{block_at}
-use Rattle.rows.specs.Row.{row_in}
+use Rattle.rows.specs.Row.{slot_in}
 use Rattle.row_steps.proofs.Steps.{Picked, Below}
 use Rattle.row_steps.proofs.joined_wide.Given as goal
 
 abbrev pub invariant-loop-j : goal.invariant-loop-j
-invariant-loop-j l =
-    (l.j ≤ l.k) × Exactly (set_of l.r) (Picked (Below l.j) (λ i. Meets (set_of l.row) (row_in l.rows i)) (λ i. (block_at l.blocks i).base))
-
-abbrev pub decreases-loop-j : goal.decreases-loop-j
-decreases-loop-j l = l.k - l.j
+invariant-loop-j l = Exactly (set_of l.r) (Picked (Below l.j) (λ i. Meets (set_of l.row) (slot_in l.layout i)) (λ i. (block_at l.blocks i).base))

@@ -5,12 +5,6 @@ use Rattle.answers.proofs.Turns.{because}
 use Rattle.shapes.proofs.Wrong.{none_wrong}
 use Rattle.shape_checks.proofs.check_block.Goals as goal
 
-pub returns-then-b : goal.returns-then-b
-returns-then-b c = here (because c.if-b.true)
-
-pub returns-then-b-gt250 : goal.returns-then-b-gt250
-returns-then-b-gt250 c = later (λ h. omega arith) (here (because c.if-b-gt250.true))
-
 pub returns-then-disagree : goal.returns-then-disagree
 returns-then-disagree c = later (λ h. omega arith) (later (λ h. omega arith) (here (because (c.disagree.ensures.so c.if-disagree.true))))
 

@@ -1,6 +1,5 @@
 -- `sweep_blocks::push`: the loop keeps what the rest of the definition's loop comes to. Assumes nothing.
 use mathlib.Core.Path.{◌∙◌}
-use Prim.Native.Nat.{◌-◌}
 use native.Mathlib.Omega.{arith}
 use Rattle.shapes.proofs.Lent.{shape_length}
 use Rattle.sweep_blocks.proofs.Turn.{push_begins, push_past, push_done, push_ended, push_restarted, push_went_on}
@@ -12,29 +11,11 @@ loop-i-init c = push_begins _ _ _ c.requires
 pub returns-then-k-eq0 : goal.returns-then-k-eq0
 returns-then-k-eq0 c = let q = c in c.pushed.ensures ∙ push_done _ _ _ _ _ _ _ _ q.loop-i.invariant (let m = shape_length q.args.y.now in omega (arith, q.loop-i-test.true)) q.if-k-eq0.true
 
-pub block-requires : goal.block-requires
-block-requires c = (c.loop-i.invariant.first, c.loop-i-test.true)
-
-pub overflow_add-looks : goal.overflow_add-looks
-overflow_add-looks c = omega (arith, c.loop-i-test.true, c.loop-i.invariant.counted)
-
 pub returns-in-Ends : goal.returns-in-Ends
 returns-in-Ends c = let q = c in c.pushed-in-Ends.ensures ∙ push_ended _ _ _ _ _ _ _ _ q.loop-i.invariant (let m = shape_length q.args.y.now in omega (arith, q.loop-i-test.true)) q.if-k-eq0.false _ q.block.ensures _ q.push_look-look.ensures _ q.in-Ends.is
 
-pub overflow_add-i : goal.overflow_add-i
-overflow_add-i c = omega (arith, c.loop-i-test.true)
-
-pub loop-i-smaller-in-Restarts : goal.loop-i-smaller-in-Restarts
-loop-i-smaller-in-Restarts c = omega (arith, c.loop-i-test.true)
-
 pub loop-i-preserved-in-Restarts : goal.loop-i-preserved-in-Restarts
 loop-i-preserved-in-Restarts c = push_restarted _ _ _ _ _ _ _ _ c.loop-i.invariant (let m = shape_length c.args.y.now in omega (arith, c.loop-i-test.true)) c.if-k-eq0.false _ c.block.ensures _ c.push_look-look.ensures c.in-Restarts.is
-
-pub overflow_add-i-in-GoesOn : goal.overflow_add-i-in-GoesOn
-overflow_add-i-in-GoesOn c = omega (arith, c.loop-i-test.true)
-
-pub loop-i-smaller : goal.loop-i-smaller
-loop-i-smaller c = omega (arith, c.loop-i-test.true)
 
 pub loop-i-preserved : goal.loop-i-preserved
 loop-i-preserved c = push_went_on _ _ _ _ _ _ _ _ c.loop-i.invariant (let m = shape_length c.args.y.now in omega (arith, c.loop-i-test.true)) c.if-k-eq0.false _ c.block.ensures _ c.push_look-look.ensures _ c.in-GoesOn.is

@@ -23,26 +23,8 @@ turned-block y i l h =
 pub loop-i-init : goal.loop-i-init
 loop-i-init c = stretch_begins _ _ _ c.requires
 
-pub overflow_add-m : goal.overflow_add-m
-overflow_add-m c = omega (arith, c.loop-i-test.true)
-
-pub overflow_sub-m : goal.overflow_sub-m
-overflow_sub-m c = omega (arith, c.loop-i-test.true)
-
-pub block-requires : goal.block-requires
-block-requires c = let f = c.loop-i.invariant.first in let t = c.loop-i-test.true in omega arith
-
-pub overflow_add-looks : goal.overflow_add-looks
-overflow_add-looks c = omega (arith, c.loop-i-test.true, c.loop-i.invariant.counted)
-
 pub returns-in-Ends : goal.returns-in-Ends
 returns-in-Ends c = let y = c.args.y.now in stretch_ended _ _ _ _ _ _ _ c.loop-i.invariant (let m = turned-length y in omega (arith, c.loop-i-test.true)) _ (c.block.ensures ∙ turned-block y c.loop-i.i.0 c.loop-i.invariant.first c.loop-i-test.true) _ c.stretch_look-look.ensures _ c.in-Ends.is
-
-pub overflow_add-i : goal.overflow_add-i
-overflow_add-i c = omega (arith, c.loop-i-test.true)
-
-pub loop-i-smaller : goal.loop-i-smaller
-loop-i-smaller c = omega (arith, c.loop-i-test.true)
 
 pub loop-i-preserved : goal.loop-i-preserved
 loop-i-preserved c = let y = c.args.y.now in stretch_went_on _ _ _ _ _ _ _ c.loop-i.invariant (let m = turned-length y in omega (arith, c.loop-i-test.true)) _ (c.block.ensures ∙ turned-block y c.loop-i.i.0 c.loop-i.invariant.first c.loop-i-test.true) _ c.stretch_look-look.ensures _ c.in-GoesOn.is

@@ -1,14 +1,14 @@
 -- `sweep_passes::push_all`: the starts so far are kept in front, the stretched places behind. Assumes nothing.
 use mathlib.Core.Path.{◌≡◌, ap}
-use Prim.Native.Nat.{ℕ, ◌+◌, ◌-◌, ◌*◌, ◌≤◌, ◌<◌}
+use Prim.Native.Nat.{ℕ, ◌+◌, ◌*◌, ◌≤◌, ◌<◌}
 use native.Mathlib.Omega.{arith}
-use lib.ListN.{length, length-set}
+use lib.ListN.{length}
 use Rattle.shapes.specs.Lent.{shape_of}
 use Rattle.sweep_steps.specs.Places.{number_of, later}
 use Rattle.sweep_steps.specs.declared.Place.{Place}
 use Rattle.sweep_steps.proofs.Looks.{later_block}
 use Rattle.shapes.specs.Shape.{block_count}
-use Rattle.sweep_passes.specs.Read.{passed}
+use Rattle.sweep_passes.specs.Read.{swept_of}
 use Rattle.shapes.proofs.Lent.{shape_length}
 use Rattle.sweep_passes.proofs.Kept.{pushed_within, pushes_begin, pushes_stuck, pushes_turn, pushes_end, never, written}
 use Rattle.sweep_passes.proofs.push_all.Goals as goal
@@ -40,76 +40,25 @@ ahead p q r e h = let l = later_block p q in let f = ap number_of e in omega ari
 pub loop-i-init : goal.loop-i-init
 loop-i-init c = pushes_begin _ _ _
 
-pub overflow_mul-at : goal.overflow_mul-at
-overflow_mul-at c = let r = room (c) in let s = r.some in let f = r.few in let g = r.fit in omega arith
-
-pub offset_bounds-kept-at : goal.offset_bounds-kept-at
-offset_bounds-kept-at c = let r = room (c) in let s = r.some in let f = r.few in let g = r.fit in omega arith
-
-pub bounds-kept-at : goal.bounds-kept-at
-bounds-kept-at c = let r = room (goal.at.bounds-kept-at c).In-loop-i in let s = r.some in let f = r.few in let g = r.fit in omega arith
-
-pub overflow_add-offset : goal.overflow_add-offset
-overflow_add-offset c = let r = room (goal.at.overflow_add-offset c).In-loop-i in let s = r.some in let f = r.few in let g = r.fit in omega arith
-
-pub offset_bounds-kept-at-in-loop-i : goal.offset_bounds-kept-at-in-loop-i
-offset_bounds-kept-at-in-loop-i c = let r = room (goal.at.offset_bounds-kept-at-in-loop-i c).In-loop-i in let s = r.some in let f = r.few in let g = r.fit in omega arith
-
-pub bounds-kept-at-in-loop-i : goal.bounds-kept-at-in-loop-i
-bounds-kept-at-in-loop-i c = let r = room (goal.at.bounds-kept-at-in-loop-i c).In-loop-i in let s = r.some in let f = r.few in let g = r.fit in omega arith
-
-pub overflow_add-next : goal.overflow_add-next
-overflow_add-next c = let r = room (goal.at.overflow_add-next c).In-loop-i in let s = r.some in let f = r.few in let g = r.fit in omega arith
-
-pub block-requires : goal.block-requires
-block-requires c = let r = room (goal.at.block-requires c).In-loop-i in let n = shape_length c.args.x.now in let s = r.some in let f = r.few in let g = r.fit in omega arith
-
 pub push-r-requires : goal.push-r-requires
 push-r-requires c = let r = room (goal.at.push-r-requires c).In-loop-i in ahead _ _ _ c.later.ensures r.first
 
 pub overflow_add-looks : goal.overflow_add-looks
 overflow_add-looks c = let r = room (goal.at.overflow_add-looks c).In-loop-i in let w = pushed_within _ _ _ _ c.push-r.ensures (ahead _ _ _ c.later.ensures r.first) in let g = r.counted in let s = r.some in let f = r.few in let l = r.low in let u = w.1 in omega arith
 
-pub shape_of-kept-then-r-ne0 : goal.shape_of-kept-then-r-ne0
-shape_of-kept-then-r-ne0 c = c.loop-i.invariant.long
-
 pub returns-then-r-ne0 : goal.returns-then-r-ne0
 returns-then-r-ne0 c = let r = room (goal.at.returns-then-r-ne0 c).In-loop-i in let e = pushes_stuck _ _ _ _ _ _ _ c.loop-i.invariant r.some r.fit _ c.block.ensures _ c.later.ensures _ c.push-r.ensures c.if-r-ne0.true in
     record {
-      answer = ap passed e;
+      answer = ap swept_of e;
       starts = λ qs l g. absurd (never _ _ _ _ g e);
     }
-
-pub offset_bounds-kept-at-in-loop-i-2 : goal.offset_bounds-kept-at-in-loop-i-2
-offset_bounds-kept-at-in-loop-i-2 c = let r = room (goal.at.offset_bounds-kept-at-in-loop-i-2 c).In-loop-i in let s = r.some in let f = r.few in let g = r.fit in omega arith
-
-pub bounds-kept-at-in-loop-i-2 : goal.bounds-kept-at-in-loop-i-2
-bounds-kept-at-in-loop-i-2 c = let r = room (goal.at.bounds-kept-at-in-loop-i-2 c).In-loop-i in let s = r.some in let f = r.few in let g = r.fit in omega arith
-
-pub overflow_add-kept : goal.overflow_add-kept
-overflow_add-kept c = let r = room (goal.at.overflow_add-kept c).In-loop-i in let s = r.some in let f = r.few in let g = r.fit in omega arith
-
-pub offset_bounds-kept-at-in-loop-i-3 : goal.offset_bounds-kept-at-in-loop-i-3
-offset_bounds-kept-at-in-loop-i-3 c = let r = room (goal.at.offset_bounds-kept-at-in-loop-i-3 c).In-loop-i in let s = r.some in let f = r.few in let g = r.fit in omega arith
-
-pub bounds-kept-at-in-loop-i-3 : goal.bounds-kept-at-in-loop-i-3
-bounds-kept-at-in-loop-i-3 c = let r = room (goal.at.bounds-kept-at-in-loop-i-3 c).In-loop-i in let s = r.some in let f = r.few in let g = r.fit in simp length-set (omega arith)
-
-pub overflow_add-i : goal.overflow_add-i
-overflow_add-i c = let r = room (goal.at.overflow_add-i c).In-loop-i in let s = r.some in let f = r.few in let g = r.fit in omega arith
-
-pub loop-i-smaller : goal.loop-i-smaller
-loop-i-smaller c = let r = room (goal.at.loop-i-smaller c).In-loop-i in let n = shape_length c.args.x.now in let s = r.some in let f = r.few in let g = r.fit in omega arith
 
 pub loop-i-preserved : goal.loop-i-preserved
 loop-i-preserved c = let r = room (goal.at.loop-i-preserved c).In-loop-i in pushes_turn _ _ _ _ _ _ _ c.loop-i.invariant r.some r.fit _ c.block.ensures _ c.later.ensures _ c.push-r.ensures c.if-r-ne0.false r.low (ahead _ _ _ c.later.ensures r.first)
 
-pub shape_of-kept : goal.shape_of-kept
-shape_of-kept c = c.loop-i.invariant.long
-
 pub returns : goal.returns
 returns c = let a = c.args in let k = c.loop-i.invariant in let n = shape_length a.x.now in let t = c.loop-i-test.false in let u = k.upto in let e = pushes_end _ _ _ _ _ _ _ k (omega arith) in
     record {
-      answer = ap passed e.0;
+      answer = ap swept_of e.0;
       starts = λ qs l g. written _ _ _ _ _ c.loop-i.i _ a.kept.now (2 * (block_count a.x.now)) (omega arith) e.0 g e.1;
     }

@@ -1,10 +1,10 @@
 -- `sweep_passes::stretch_all`: the places of the blocks from i on are kept, and the end reached. Assumes nothing.
-use mathlib.Core.Path.{sym}
-use Prim.Native.Nat.{ℕ, ◌*◌, ◌≤◌}
+use mathlib.Core.Path.{◌≡◌, sym, ap, ◌∙◌}
+use Prim.Native.Nat.{ℕ, ◌+◌, ◌-◌, ◌*◌, ◌≤◌}
 use native.Mathlib.Omega.{arith}
-use lib.ListN.{length, length-set}
+use lib.ListN.{length}
 use Rattle.shapes.specs.Lent.{shape_of}
-use Rattle.sweep_steps.specs.Places.{number_of}
+use Rattle.sweep_steps.specs.Places.{number_of, nth}
 use Rattle.sweep_steps.specs.declared.Place.{Place}
 use Rattle.shapes.proofs.Lent.{shape_length}
 use Rattle.shapes.specs.Shape.{block_count}
@@ -34,9 +34,6 @@ room c =
 pub loop-i-init : goal.loop-i-init
 loop-i-init c = let a = c.args in stretches_begin (shape_of a.x.now) _ _ _ (sym (shape_length a.x.now))
 
-pub block-requires : goal.block-requires
-block-requires c = let r = room c in (r.some, r.upto)
-
 pub stretch-r-requires : goal.stretch-r-requires
 stretch-r-requires c = (room (goal.at.stretch-r-requires c).In-loop-i).first
 
@@ -46,35 +43,12 @@ overflow_add-looks c = let r = room (goal.at.overflow_add-looks c).In-loop-i in 
 pub forward-p-requires : goal.forward-p-requires
 forward-p-requires c = (stretched_within _ _ _ _ _ _ _ c.loop-i.invariant _ _ c.stretch-r.ensures).0
 
-pub overflow_sub-i : goal.overflow_sub-i
-overflow_sub-i c = (room (goal.at.overflow_sub-i c).In-loop-i).some
-
-pub overflow_mul-at : goal.overflow_mul-at
-overflow_mul-at c = let r = room (goal.at.overflow_mul-at c).In-loop-i in let u = r.upto in let f = r.few in omega arith
-
-pub offset_bounds-kept-at : goal.offset_bounds-kept-at
-offset_bounds-kept-at c = let r = room (goal.at.offset_bounds-kept-at c).In-loop-i in let u = r.upto in let f = r.few in omega arith
-
-pub bounds-kept-at : goal.bounds-kept-at
-bounds-kept-at c = let r = room (goal.at.bounds-kept-at c).In-loop-i in let s = r.some in let f = r.fit in omega arith
-
-pub overflow_add-kept : goal.overflow_add-kept
-overflow_add-kept c = let r = room (goal.at.overflow_add-kept c).In-loop-i in let u = r.upto in let f = r.few in omega arith
-
-pub offset_bounds-kept-at-in-loop-i : goal.offset_bounds-kept-at-in-loop-i
-offset_bounds-kept-at-in-loop-i c = let r = room (goal.at.offset_bounds-kept-at-in-loop-i c).In-loop-i in let u = r.upto in let f = r.few in omega arith
-
-pub bounds-kept-at-in-loop-i : goal.bounds-kept-at-in-loop-i
-bounds-kept-at-in-loop-i c = let r = room (goal.at.bounds-kept-at-in-loop-i c).In-loop-i in let s = r.some in let f = r.fit in simp length-set (omega arith)
-
-pub loop-i-smaller : goal.loop-i-smaller
-loop-i-smaller c = let r = room (goal.at.loop-i-smaller c).In-loop-i in let s = r.some in omega arith
-
 pub loop-i-preserved : goal.loop-i-preserved
-loop-i-preserved c = let r = room (goal.at.loop-i-preserved c).In-loop-i in stretches_turn _ _ _ _ _ _ _ c.loop-i.invariant r.some r.fit _ c.block.ensures _ c.stretch-r.ensures _ c.forward-p.ensures
-
-pub shape_of-kept : goal.shape_of-kept
-shape_of-kept c = c.loop-i.invariant.long
+loop-i-preserved c =
+    let r = room (goal.at.loop-i-preserved c).In-loop-i in
+    let some = r.some in
+    let same : c.loop-i.i - 1 + 1 ≡ c.loop-i.i = omega arith in
+    stretches_turn _ _ _ _ _ _ _ c.loop-i.invariant some r.fit _ (c.block.ensures ∙ ap (nth (shape_of c.args.x.now)) same) _ c.stretch-r.ensures _ c.forward-p.ensures
 
 pub returns : goal.returns
 returns c = stretches_end _ _ _ _ _ _ _ c.loop-i.invariant c.loop-i-test.false

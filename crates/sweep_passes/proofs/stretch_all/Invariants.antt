@@ -5,6 +5,3 @@ use Rattle.sweep_passes.proofs.stretch_all.Given as goal
 
 abbrev pub invariant-loop-i : goal.invariant-loop-i
 invariant-loop-i l = StretchesKept (shape_of l.x) (shape_of l.y) l.initial.kept l.kept l.reached l.looks l.i
-
-abbrev pub decreases-loop-i : goal.decreases-loop-i
-decreases-loop-i l = l.i

@@ -1,56 +1,34 @@
--- `texts::earlier`: up to i the texts are alike, so their order is that of their rests. Assumes nothing.
-use mathlib.Core.Path.{◌≡◌, refl}
-use Prim.Native.Nat.{◌-◌}
-use native.Mathlib.Omega.{arith}
-use lib.ListN.{get_or}
-use Rattle.texts.proofs.Rests.{longer_not, ended_not, above_not, below_not, level_at_most, level_before}
+-- `texts::earlier`: `<` on two texts is `Before`. Assumes nothing.
+use Rattle.std.proofs.Common.{◌≡◌, ℕ, true, false, List, [], ◌∷◌, refl, sym, ap, ◌∙◌, Ordering, Less, Equal, Greater}
+use Rattle.std.specs.Prelude.{Option, Some}
+use Rattle.std.specs.Ordering.{nat_cmp, is_lt, is_some_and, partial_ordering_then}
+use Rattle.std.specs.Cmp.{nat_cmp_is}
+use Rattle.std.specs.Cmp.Lexicographic.{slice_partial_cmp}
+use Rattle.texts.specs.Order.{AtMost, Before}
+use Rattle.texts.specs.Order.AtMost.{ends as at-ends, less as at_less, same as at_same}
+use Rattle.texts.specs.Order.Before.{ends, less, same}
 use Rattle.texts.proofs.earlier.Goals as goal
 
-pub loop-i-init : goal.loop-i-init
-loop-i-init c = (omega arith, λ p. p, λ p. p)
+abbrev rest : List ℕ → List ℕ → Option Ordering
+rest = slice_partial_cmp (λ x y. Some (nat_cmp x y))
 
-pub returns-then-second-i : goal.returns-then-second-i
-returns-then-second-i c =
-    let l = c.loop-i in
-    record {
-      value = λ p. absurd (longer_not _ _ l.i c.loop-i-test.true c.if-second-i.true (l.invariant.1 p));
-      value_2 = λ p. refl;
-    }
+-- two texts of which one character each is compared
+by_heads : (t u : List ℕ) (c d : ℕ) (o : Ordering) → o ≡ nat_cmp c d → is_some_and is_lt (rest (c ∷ t) (d ∷ u)) ≡ is_some_and is_lt (partial_ordering_then (Some o) (rest t u))
+by_heads t u c d o e = ap (λ (r : Ordering). is_some_and is_lt (partial_ordering_then (Some r) (rest t u))) (sym e)
 
-pub returns-then-first-i : goal.returns-then-first-i
-returns-then-first-i c =
-    let t = c.before.before.before in
-    let l = t.loop-i in
-    record {
-      value = λ p. refl;
-      value_2 = λ p. absurd (below_not _ _ l.i t.loop-i-test.true t.if-second-i.false c.if-first-i.true (l.invariant.2 p));
-    }
+before_less : {t u : List ℕ} → Before t u → is_some_and is_lt (rest t u) ≡ true
+before_less ends = refl
+before_less (less {c} {d} {t} {u} h) = by_heads t u c d Less (nat_cmp_is c d Less h)
+before_less (same {c} {t} {u} p) = by_heads t u c c Equal (nat_cmp_is c c Equal refl) ∙ before_less p
 
-pub returns-then-second-i-2 : goal.returns-then-second-i-2
-returns-then-second-i-2 c =
-    let t = c.before.before.before.before.before.before in
-    let l = t.loop-i in
-    record {
-      value = λ p. absurd (above_not _ _ l.i t.loop-i-test.true t.if-second-i.false c.if-second-i-2.true (l.invariant.1 p));
-      value_2 = λ p. refl;
-    }
+at_most_not : {t u : List ℕ} → AtMost t u → is_some_and is_lt (rest u t) ≡ false
+at_most_not (at-ends {u = []}) = refl
+at_most_not (at-ends {u = d ∷ u}) = refl
+at_most_not (at_less {c} {d} {t} {u} h) = by_heads u t d c Greater (nat_cmp_is d c Greater h)
+at_most_not (at_same {c} {t} {u} p) = by_heads u t c c Equal (nat_cmp_is c c Equal refl) ∙ at_most_not p
 
-pub loop-i-preserved : goal.loop-i-preserved
-loop-i-preserved c =
-    let t = c.before.before.before.before.before.before in
-    let l = t.loop-i in
-    let first = t.args.first.now in
-    let second = t.args.second.now in
-    let level : get_or first l.i 0 ≡ get_or second l.i 0 = let h = c.if-second-i-2.false in let g = c.if-first-i.false in omega arith in (
-      omega arith,
-      λ p. level_at_most _ _ l.i t.loop-i-test.true t.if-second-i.false level (l.invariant.1 p),
-      λ p. level_before _ _ l.i t.loop-i-test.true t.if-second-i.false level (l.invariant.2 p),
-    )
+pub returns-then-lt-clause-value : goal.returns-then-lt-clause-value
+returns-then-lt-clause-value c = λ p. let e = at_most_not p in let h = c.if-lt.ensures in cc
 
-pub returns : goal.returns
-returns c =
-    let l = c.loop-i in
-    record {
-      value = λ p. refl;
-      value_2 = λ p. absurd (ended_not _ _ l.i c.loop-i-test.false (l.invariant.2 p));
-    }
+pub returns-else-lt-clause-value_2 : goal.returns-else-lt-clause-value_2
+returns-else-lt-clause-value_2 c = λ p. let e = before_less p in let h = c.if-lt.ensures in cc

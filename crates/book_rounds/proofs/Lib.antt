@@ -1,0 +1,2 @@
+-- The laws of the rounds.
+pub mod Round

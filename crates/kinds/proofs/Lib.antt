@@ -1,2 +1,0 @@
--- What the inner calls answer, by kind.
-pub mod Kind

@@ -1,0 +1,2 @@
+-- The relations of a rule of two texts, and their kinds.
+pub mod Relation

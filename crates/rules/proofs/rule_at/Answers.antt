@@ -1,6 +1,0 @@
--- `rules::rule_at`: four numbers are read. Assumes nothing.
-use native.Mathlib.Numerals.{towards_suc}
-use Rattle.rules.proofs.rule_at.Goals as goal
-
-pub returns : goal.returns
-returns c = simp towards_suc
