@@ -48,7 +48,8 @@ def functions(path):
 def parameters(signature):
     """Pairs of name and type."""
     inner = re.search(r"\((.*)\)", signature)
-    return re.findall(r"(?:mut )?([a-z_0-9]+): ((?:&'?[a-z]* ?(?:mut )?)?(?:\[[^\]]*\]|[A-Za-z_0-9:<>]+))", inner.group(1)) if inner else []
+    kinds = r"(?:mut )?([a-z_0-9]+): ((?:&'?[a-z]* ?(?:mut )?)?(?:\[[^\]]*\]|[A-Za-z_0-9:<>]+))"
+    return re.findall(kinds, inner.group(1)) if inner else []
 
 
 def enums():
@@ -74,11 +75,12 @@ def shape_of(body):
     seen = {}
     words = re.findall(r"[A-Za-z_][A-Za-z_0-9]*|[0-9]+|[^\s\w]", " ".join(body))
     keep = {"let", "mut", "if", "else", "while", "for", "in", "return", "match", "loop", "as"}
-    return " ".join(w if w in keep or not re.match(r"[A-Za-z_0-9]", w) else seen.setdefault(w, f"x{len(seen)}") for w in words)
+    named = re.compile(r"[A-Za-z_0-9]")
+    return " ".join(w if w in keep or not named.match(w) else seen.setdefault(w, f"x{len(seen)}") for w in words)
 
 
 def twins():
-    """2: functions of five lines or more whose bodies differ in names and numbers alone, and forms of one word beside wide ones."""
+    """2: functions of five lines or more that differ in names and numbers alone; forms of one word beside wide ones."""
     groups = collections.defaultdict(list)
     for path in FILES:
         for name, at, _, _, body in functions(path):
@@ -90,7 +92,7 @@ def twins():
     word = re.compile(r"_(word|low)$|^with_word$")
     for path in FILES:
         for name, at, _, _, _ in functions(path):
-            if word.search(name) and name not in ("read_word", "word_set", "in_word", "is_word", "as_word", "of_word", "word_down"):
+            if word.search(name) and name not in ("read_word", "word_set", "in_word", "is_word", "as_word", "of_word"):
                 yield f"{path}:{at}: fn {name}, the form of one word"
 
 
@@ -105,29 +107,35 @@ def loops():
                 while lines[end] != head.group(1) + "}":
                     end += 1
                 body = "\n".join(lines[n:end])
-                counter = re.findall(r"\b([a-z_.0-9]+) (?:\+=|-=) 1;", body) + re.findall(r"\b(i) = BlockNumber\(i", body)
+                counter = re.findall(r"\b([a-z_.0-9]+) (?:\+=|-=) 1;", body)
+                counter += re.findall(r"\b(i) = BlockNumber\(i", body)
                 if any(re.search(rf"\b{re.escape(c)}\b", head.group(2)) for c in counter):
                     yield f"{path}:{n + 1}: {line.strip()}"
 
 
+COMPARED = r"(while|for) [^{]*\{ if \w+\[[^\]]*\] (==|!=|<) \w+(\[[^\]]*\])? \{ return [^;]*; \}"
+TOLD = r"match (r|s|ended|answer|record) \{.*\}"
+CHOSEN = r"if (.+) <=? (.+) \{ return (\w+|0|\w+ as usize|[\w.()]+); \} (.+)"
+
+
 def by_hand():
-    """4: elements copied, filled or compared one by one; the less or the greater of two; an enum turned into numbers."""
+    """4: elements copied, filled or compared one by one; the less or greater of two; an enum turned into numbers."""
     for path in FILES:
         for name, at, signature, _, body in functions(path):
             text = " ".join(line.strip() for line in body)
             one = r"(?:let \w+ = [^;]*; )?"
             if re.search(r"while [^{]*\{ " + one + r"\w+\[[^\]]*\] = (\w+\[[^\]]*\]|\w+); \w+ \+= 1; \}", text):
                 yield f"{path}:{at}: fn {name}, copied or filled"
-            elif re.search(r"(while|for) [^{]*\{ if \w+\[[^\]]*\] (==|!=|<) \w+(\[[^\]]*\])? \{ return [^;]*; \}", text) or "if second.len() <= i" in text:
+            elif re.search(COMPARED, text) or "if second.len() <= i" in text:
                 yield f"{path}:{at}: fn {name}, compared"
-            elif re.fullmatch(r"if (.+) <=? (.+) \{ return (\w+|0|\w+ as usize|[\w.()]+); \} (.+)", text) and len(body) <= 4 and "->" in signature and "bool" not in signature:
+            elif re.fullmatch(CHOSEN, text) and len(body) <= 4 and "->" in signature and "bool" not in signature:
                 yield f"{path}:{at}: fn {name}, the less or the greater"
-            elif re.fullmatch(r"match (r|s|ended|answer|record) \{.*\}", text) and re.search(r"-> (u64|AnswerRecord)$", signature):
+            elif re.fullmatch(TOLD, text) and re.search(r"-> (u64|AnswerRecord)$", signature):
                 yield f"{path}:{at}: fn {name}, an answer turned into numbers"
 
 
 def together():
-    """5: clauses that stand in three contracts or more, and three parameters that travel together through three functions."""
+    """5: clauses of three contracts or more, and three parameters that travel together through three functions."""
     clauses = collections.defaultdict(set)
     groups = collections.defaultdict(set)
     for path in FILES:
