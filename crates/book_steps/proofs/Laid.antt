@@ -1,7 +1,7 @@
 -- New numbers of some texts of a book laid over their old ones: what is read then, the blocks that they are, and
 -- whether anything is changed. Assumes nothing.
 use mathlib.Core.Path.{◌≡◌, refl, sym, ap, ◌∙◌}
-use mathlib.Core.Bool.{Bool, true, false, ◌&&◌}
+use mathlib.Core.Bool.{Bool, true, true≢false}
 use mathlib.Core.List.{List, [], ◌∷◌, map}
 use mathlib.Core.Logic.{⊎_elim}
 use Prim.Native.Nat.{ℕ, ◌+◌, ◌*◌, ◌≤◌}
@@ -20,7 +20,7 @@ use Rattle.books.specs.Counts.{sum_of, count_of, first_of}
 use Rattle.books.specs.Rules.{Names}
 use Rattle.books.specs.Code.{numbers_in}
 use Rattle.books.proofs.Sums.{text_within}
-use Rattle.plain.proofs.Tells.{tells_true, tells_false}
+use Rattle.plain.proofs.Tells.{tells_so}
 use Rattle.book_steps.specs.Step.{laid_over}
 use Rattle.book_steps.proofs.Parts.{either_side, laid_parts, Sized, no_text, one_text}
 
@@ -105,27 +105,30 @@ module _ (counts : List ℕ) where
 
 -- ---- laid one after the other, as the code does it
 
--- The texts ks are laid, from the numbers xs to the numbers ys; `s` tells whether nothing is changed.
-pub data Lays (counts : List ℕ) : List ℕ → List (List Block) → List ℕ → List ℕ → Bool → Type 0 where
-  all_laid : {xs : List ℕ} → Lays counts [] [] xs xs true
-  then_lay : {k : ℕ} {ks : List ℕ} {B : List Block} {H : List (List Block)} {xs mid ys : List ℕ} {m s : Bool} → mid ≡ laid_one counts k B xs → Tells m (mid ≡ xs)
-      → Lays counts ks H mid ys s → Lays counts (k ∷ ks) (B ∷ H) xs ys (m && s)
+-- The texts ks are laid, from the numbers xs to the numbers ys; `r` tells whether nothing was changed before, `s`
+-- whether nothing is after.
+pub data Lays (counts : List ℕ) : List ℕ → List (List Block) → List ℕ → List ℕ → Bool → Bool → Type 0 where
+  all_laid : {xs : List ℕ} {r : Bool} → Lays counts [] [] xs xs r r
+  then_lay : {k : ℕ} {ks : List ℕ} {B : List Block} {H : List (List Block)} {xs mid ys : List ℕ} {r m s : Bool} → mid ≡ laid_one counts k B xs → Tells m ((r ≡ true) × (mid ≡ xs))
+      → Lays counts ks H mid ys m s → Lays counts (k ∷ ks) (B ∷ H) xs ys r s
 
--- two answers that both tell, of one that tells of both
-both_tell : {m s : Bool} {P Q R : Type 0} → Tells m P → Tells s Q → (R → P) → (R → Q) → (P → Q → R) → Tells (m && s) R
-both_tell {m = true} {s = true} p q f g h = tells_true (h (p.so refl) (q.so refl))
-both_tell {m = true} {s = false} p q f g h = tells_false (λ r. q.not_so refl (g r))
-both_tell {m = false} {s = s} p q f g h = tells_false (λ r. p.not_so refl (f r))
+-- nothing is changed: as before
+pub tells_kept : (r : Bool) {xs ys : List ℕ} → ys ≡ xs → Tells r ((r ≡ true) × (ys ≡ xs))
+tells_kept r e = record { so = λ p. (p, e); not_so = λ p q. true≢false (sym q.0 ∙ p) }
 
 module _ {counts : List ℕ} where
-  pub lays_all : {ks : List ℕ} {H : List (List Block)} {xs ys : List ℕ} {s : Bool} → Lays counts ks H xs ys s → ys ≡ laid_all counts ks H xs
+  pub lays_all : {ks : List ℕ} {H : List (List Block)} {xs ys : List ℕ} {r s : Bool} → Lays counts ks H xs ys r s → ys ≡ laid_all counts ks H xs
   unfolding laid_over
   lays_all all_laid = refl
   lays_all (then_lay {ks = ks} {H = H} e t l) = lays_all l ∙ ap (laid_all counts ks H) e
 
-  pub lays_tell : {ks : List ℕ} {H : List (List Block)} {xs ys : List ℕ} {s : Bool} → All (Names counts) ks → Distinct ks → Sized counts ks H → length xs ≡ sum_of counts * block_size
-      → Lays counts ks H xs ys s → Tells s (ys ≡ xs)
-  lays_tell a d z e all_laid = tells_true refl
-  lays_tell (more n a) (one_more o d) (one_text z g) e (then_lay {k = k} {ks = ks} {B = B} {H = H} {xs = xs} {mid = mid} {ys = ys} f t l) =
+  pub lays_tell : {ks : List ℕ} {H : List (List Block)} {xs ys : List ℕ} {r s : Bool} → All (Names counts) ks → Distinct ks → Sized counts ks H → length xs ≡ sum_of counts * block_size
+      → Lays counts ks H xs ys r s → Tells s ((r ≡ true) × (ys ≡ xs))
+  lays_tell {r = r} a d z e all_laid = tells_kept r refl
+  lays_tell (more n a) (one_more o d) (one_text z g) e (then_lay {k = k} {ks = ks} {B = B} {H = H} {xs = xs} {mid = mid} {ys = ys} {m = m} f t l) =
+      let rest : Tells _ ((m ≡ true) × (ys ≡ mid)) = lays_tell a d g (ap length f ∙ one_size counts B xs n e z) l in
       let first : ys ≡ xs → mid ≡ xs = λ q. f ∙ first_unchanged counts k ks B H xs n o a z g e (ap (laid_all counts ks H) (sym f) ∙ sym (lays_all l) ∙ q) in
-      both_tell t (lays_tell a d g (ap length f ∙ one_size counts B xs n e z) l) first (λ q. q ∙ sym (first q)) (λ p q. q ∙ p)
+      record {
+        so = λ p. let q = rest.so p in let h = t.so q.0 in (h.0, q.1 ∙ h.1);
+        not_so = λ p q. let h = first q.1 in rest.not_so p (tells_so t (q.0, h), q.1 ∙ sym h);
+      }

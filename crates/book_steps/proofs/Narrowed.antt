@@ -1,7 +1,7 @@
 -- What narrowing answers for the texts of a rule, read as new shapes of the texts that it looks at; and back. Assumes
 -- nothing.
 use mathlib.Core.Path.{◌≡◌, refl, sym, ap, ap₂, ◌∙◌, subst, subst₂}
-use mathlib.Core.Bool.{Bool, true, false, ◌&&◌}
+use mathlib.Core.Bool.{Bool, true, false}
 use mathlib.Core.List.{List, [], ◌∷◌, ◌++◌, append-nil}
 use Prim.Native.Nat.{ℕ, ◌+◌, ◌*◌, ◌≤◌}
 use native.Mathlib.Omega.{arith}
@@ -104,15 +104,15 @@ module _ {counts xs : List ℕ} (d : Standing counts xs) where
             (subst (λ (Q : List (List ℕ) → Type 0). Hull Q both (n.first ++ n.second)) entered_two n.hull)
 
         -- laid back one after the other
-        module _ (w : Numbers xs) {mid ys : List ℕ} {m s : Bool} (e : mid ≡ replaced (first_of counts t.a * block_size) (take (count_of counts t.a * block_size) ox') xs) (p : Tells m (mid ≡ xs))
-            (f : ys ≡ replaced (first_of counts t.b * block_size) (take (count_of counts t.b * block_size) oy') mid) (q : Tells s (ys ≡ mid)) where
-          two_lays : Lays counts (t.a ∷ (t.b ∷ [])) new_two xs ys (m && (s && true))
+        module _ (w : Numbers xs) {mid ys : List ℕ} {m s : Bool} (e : mid ≡ replaced (first_of counts t.a * block_size) (take (count_of counts t.a * block_size) ox') xs) (p : Tells m ((true ≡ true) × (mid ≡ xs)))
+            (f : ys ≡ replaced (first_of counts t.b * block_size) (take (count_of counts t.b * block_size) oy') mid) (q : Tells s ((m ≡ true) × (ys ≡ mid))) where
+          two_lays : Lays counts (t.a ∷ (t.b ∷ [])) new_two xs ys true s
           two_lays = then_lay (new_laid t.a xs _ n.first first_of_two n.first_output e) p (then_lay (new_laid t.b mid _ n.second second_of_two n.second_output f) q all_laid)
 
-          pub two_same : m && (s && true) ≡ true → RuleApplied counts t xs ys Same
+          pub two_same : s ≡ true → RuleApplied counts t xs ys Same
           two_same = says_same d (two_looks counts t right no_join) two_sized two_hull w two_lays
 
-          pub two_changed : m && (s && true) ≡ false → RuleApplied counts t xs ys Changed
+          pub two_changed : s ≡ false → RuleApplied counts t xs ys Changed
           two_changed = says_changed d (two_looks counts t right no_join) two_sized two_hull w two_lays
 
       -- what the rule makes of all blocks is, at its two texts, what narrowing answers for them
@@ -194,18 +194,18 @@ module _ {counts xs : List ℕ} (d : Standing counts xs) where
             (subst (λ (Q : List (List ℕ) → Type 0). Hull Q three (n.first ++ (n.second ++ n.third))) entered_three n.hull)
 
         module _ (w : Numbers xs) {one two ys : List ℕ} {m p s : Bool} (e : one ≡ replaced (first_of counts t.a * block_size) (take (count_of counts t.a * block_size) ox') xs)
-            (h : Tells m (one ≡ xs))
-            (f : two ≡ replaced (first_of counts t.b * block_size) (take (count_of counts t.b * block_size) oy') one) (q : Tells p (two ≡ one))
-            (g : ys ≡ replaced (first_of counts t.c * block_size) (take (count_of counts t.c * block_size) oz') two) (u : Tells s (ys ≡ two)) where
-          three_lays : Lays counts (t.a ∷ (t.b ∷ (t.c ∷ []))) new_three xs ys (m && (p && (s && true)))
+            (h : Tells m ((true ≡ true) × (one ≡ xs)))
+            (f : two ≡ replaced (first_of counts t.b * block_size) (take (count_of counts t.b * block_size) oy') one) (q : Tells p ((m ≡ true) × (two ≡ one)))
+            (g : ys ≡ replaced (first_of counts t.c * block_size) (take (count_of counts t.c * block_size) oz') two) (u : Tells s ((p ≡ true) × (ys ≡ two))) where
+          three_lays : Lays counts (t.a ∷ (t.b ∷ (t.c ∷ []))) new_three xs ys true s
           three_lays =
               then_lay (new_laid t.a xs _ n.first first_of_three n.first_output e) h
               (then_lay (new_laid t.b one _ n.second second_of_three n.second_output f) q (then_lay (new_laid t.c two _ n.third third_of_three n.third_output g) u all_laid))
 
-          pub three_same : m && (p && (s && true)) ≡ true → RuleApplied counts t xs ys Same
+          pub three_same : s ≡ true → RuleApplied counts t xs ys Same
           three_same = says_same d (three_looks counts t right join) three_sized three_hull w three_lays
 
-          pub three_changed : m && (p && (s && true)) ≡ false → RuleApplied counts t xs ys Changed
+          pub three_changed : s ≡ false → RuleApplied counts t xs ys Changed
           three_changed = says_changed d (three_looks counts t right join) three_sized three_hull w three_lays
 
       pub three_back : {J : List Block} (ox oy oz : List ℕ) → Hull (asks counts t) (shape_of xs) J

@@ -1,5 +1,5 @@
 -- One application of a rule, from what narrowing makes of the texts that it looks at. Assumes nothing.
-use mathlib.Core.Path.{◌≡◌, sym, ap, ◌∙◌, subst}
+use mathlib.Core.Path.{◌≡◌, refl, sym, ap, ◌∙◌, subst}
 use mathlib.Core.Bool.{Bool, true, false}
 use mathlib.Core.List.{List, [], ◌∷◌}
 use Prim.Native.Nat.{ℕ}
@@ -61,17 +61,17 @@ module _ {counts xs : List ℕ} (d : Standing counts xs) {t : Rule} {ks : List �
   applied_same w e = let size = d.size in let long = applied_size in same_numbers laid xs (omega arith) (omega arith) (applied_words w) w e
 
   -- laid back text by text, as the code does it, with what it tells on the way
-  module _ (w : Numbers xs) {ys : List ℕ} {s : Bool} (lays : Lays counts ks H xs ys s) where
+  module _ (w : Numbers xs) {ys : List ℕ} {s : Bool} (lays : Lays counts ks H xs ys true s) where
     laid_hull : Hull (asks counts t) (shape_of xs) (shape_of ys)
     laid_hull = subst (λ (l : List ℕ). Hull (asks counts t) (shape_of xs) (shape_of l)) (sym (lays_all lays)) applied_hull
 
     pub says_same : s ≡ true → RuleApplied counts t xs ys Same
     says_same e =
-        let same : ys ≡ xs = (lays_tell look.named look.apart z d.size lays).so e in
+        let same : ys ≡ xs = ((lays_tell look.named look.apart z d.size lays).so e).1 in
         (subst (λ (l : List ℕ). Hull (asks counts t) (shape_of xs) (shape_of l)) same laid_hull, same)
 
     pub says_changed : s ≡ false → RuleApplied counts t xs ys Changed
     says_changed e = (
       laid_hull,
-      λ q. (lays_tell look.named look.apart z d.size lays).not_so e (lays_all lays ∙ applied_same w (ap shape_of (sym (lays_all lays)) ∙ q)),
+      λ q. (lays_tell look.named look.apart z d.size lays).not_so e (refl, lays_all lays ∙ applied_same w (ap shape_of (sym (lays_all lays)) ∙ q)),
     )

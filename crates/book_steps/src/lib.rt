@@ -3,7 +3,7 @@
 
 #![tactic(auto)]
 
-ghost use Rattle.std.specs.Prelude.{◌≡◌, ◌*◌, ◌≤◌, length, take};
+ghost use Rattle.std.specs.Prelude.{◌≡◌, true, ◌*◌, ◌≤◌, length, take};
 ghost use Rattle.plain.specs.Tells.{Tells};
 ghost use Rattle.laying.specs.Laid.{replaced};
 ghost use Rattle.plain.specs.All.{All};
@@ -21,7 +21,7 @@ pub enum Applied {
 }
 
 // Lays the new numbers of text k, the first of x, over its old ones. Whether they are the same.
-pub fn lay_text(counts: &[u64], numbers: &mut [u64], k: u64, x: &[u64]) -> bool
+fn lay_one(counts: &[u64], numbers: &mut [u64], k: u64, x: &[u64]) -> bool
     requires all { All RightCount counts.now }
     requires counts_len_bound { length counts.now ≤ most_texts }
     requires numbers_len { length numbers.old ≡ sum_of counts.now * block_size }
@@ -30,9 +30,25 @@ pub fn lay_text(counts: &[u64], numbers: &mut [u64], k: u64, x: &[u64]) -> bool
     ensures tells { Tells result (numbers.new ≡ numbers.old) }
     ensures numbers_after { numbers.new ≡ replaced (first_of counts.now k * block_size) (take (count_of counts.now k * block_size) x.now) numbers.old }
 {
-    let old = &mut numbers[books::range_of(counts, k as usize)];
-    let new = &x[..old.len()];
-    let same = *old == *new;
-    old.copy_from_slice(new);
+    let range = books::range_of(counts, k as usize);
+    let new = &x[..range.to - range.from];
+    let same = laying::same_numbers(&numbers[range.from..range.to], new);
+    laying::lay(numbers, range.from, new);
     same
+}
+
+// The same, handed on: whether these numbers are the same, and all that were laid before were.
+pub fn lay_text(counts: &[u64], numbers: &mut [u64], k: u64, x: &[u64], same: bool) -> bool
+    requires all { All RightCount counts.now }
+    requires counts_len_bound { length counts.now ≤ most_texts }
+    requires numbers_len { length numbers.old ≡ sum_of counts.now * block_size }
+    requires names { Names counts.now k }
+    requires block_size_in_bounds { most_blocks * block_size ≤ length x.now }
+    ensures tells { Tells result ((same ≡ true) × (numbers.new ≡ numbers.old)) }
+    ensures numbers_after { numbers.new ≡ replaced (first_of counts.now k * block_size) (take (count_of counts.now k * block_size) x.now) numbers.old }
+{
+    if lay_one(counts, numbers, k, x) {
+        return same;
+    }
+    false
 }

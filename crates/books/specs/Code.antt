@@ -7,15 +7,15 @@ use Rattle.plain.specs.All.{All}
 use Rattle.shapes.specs.Shape.{Block, block_size, most_blocks}
 use Rattle.shapes.specs.Lent.{shape_of}
 use Rattle.rules.specs.Limits.{most_texts}
-use Rattle.std.specs.declared.ops.Range.{Range}
+use Rattle.books.specs.declared.Range.{Range}
 use Rattle.books.specs.Counts.{sum_of, RightCount, count_of, first_of}
 use Rattle.books.specs.Refused.{SoundTexts, each_text_turn, of_rule, each_rule}
 
 -- where text k stands among the numbers of all, and that it stands within them
-pub record RangeOf (counts : List ℕ) (k : ℕ) (r : Range ℕ) : Type 0 where
-  pub from : r.start ≡ first_of counts k * block_size
-  pub to : r.end ≡ r.start + count_of counts k * block_size
-  pub within : r.end ≤ sum_of counts * block_size
+pub record RangeOf (counts : List ℕ) (k : ℕ) (r : Range) : Type 0 where
+  pub from : r.from ≡ first_of counts k * block_size
+  pub to : r.to ≡ r.from + count_of counts k * block_size
+  pub within : r.to ≤ sum_of counts * block_size
   pub few : count_of counts k ≤ most_blocks
 
 -- every text is sound, or the first that is not is told

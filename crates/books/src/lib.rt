@@ -11,7 +11,12 @@ ghost use Rattle.shapes.specs.Lent.{shape_of};
 ghost use Rattle.shapes.specs.Shape.{block_size, block_count, most_blocks};
 ghost use Rattle.books.specs.Code.{RangeOf, numbers_in};
 
-use std::ops::Range;
+// Where the numbers of a text begin, and where they end.
+#[derive(Clone, Copy)]
+pub struct Range {
+    pub from: usize,
+    pub to: usize,
+}
 
 // The blocks of the first k texts: the number, from 0, of the first block of text k + 1.
 pub fn blocks_before(counts: &[u64], k: usize) -> usize
@@ -25,7 +30,7 @@ pub fn blocks_before(counts: &[u64], k: usize) -> usize
 }
 
 // The range of text k, from 1, among the numbers of all.
-pub fn range_of(counts: &[u64], k: usize) -> Range<usize>
+pub fn range_of(counts: &[u64], k: usize) -> Range
     requires all { All RightCount counts.now }
     requires counts_len_bound { length counts.now ≤ most_texts }
     requires names { Names counts.now k }
@@ -33,7 +38,7 @@ pub fn range_of(counts: &[u64], k: usize) -> Range<usize>
 {
     let from = blocks_before(counts, k - 1) * shapes::SIZE;
     let to = blocks_before(counts, k) * shapes::SIZE;
-    from..to
+    Range { from, to }
 }
 
 // The numbers of text k, from 1, among the numbers of all.
@@ -46,5 +51,6 @@ pub fn text<'a>(counts: &[u64], numbers: &'a [u64], k: usize) -> &'a [u64]
     ensures shape { shape_of result.now ≡ shape_in counts.now (shape_of numbers.now) k }
     ensures few { block_count result.now ≤ most_blocks }
 {
-    &numbers[range_of(counts, k)]
+    let range = range_of(counts, k);
+    &numbers[range.from..range.to]
 }

@@ -6,7 +6,7 @@
 ghost use Rattle.std.specs.Prelude.{◌≡◌, ◌≤◌, length};
 ghost use Rattle.shapes.specs.Lent.{Whole};
 ghost use Rattle.rows.specs.Row.{table_size};
-ghost use Rattle.row_paths.specs.Laid.{Laid};
+ghost use Rattle.row_paths.specs.Laid.{Laid, LaidOut};
 ghost use Rattle.shapes.specs.Shape.{block_count};
 ghost use Rattle.common_back.specs.Back.{EndRows};
 
@@ -15,9 +15,9 @@ use rows::LaidBlock;
 use sets::Set;
 
 // The rows of all blocks of x beside y, which is laid out in `layout`, from the last block to the first.
-pub fn back(x: &[u64], y: &[u64], layout: &[LaidBlock], mines: &mut [Set], rows: &mut [Set])
+fn back_laid(x: &[u64], y: &[u64], layout: &[LaidBlock], mines: &mut [Set], rows: &mut [Set])
     requires whole { Whole x.now }
-    requires laid { Laid y.now layout.now }
+    requires laid { LaidOut y.now layout.now }
     requires x_bound { (block_count x.now ≤ length mines.old) × (length rows.old ≡ table_size) }
     ensures end_rows { EndRows x.now y.now mines.new rows.new }
     ensures mines_len_unchanged { (length mines.new ≡ length mines.old) × (length rows.new ≡ length rows.old) }
@@ -42,4 +42,15 @@ pub fn back(x: &[u64], y: &[u64], layout: &[LaidBlock], mines: &mut [Set], rows:
         mines[i] = mine;
         row = common_blocks::back_block(&side, mine, b, p, row, rows);
     }
+}
+
+// The same where the layout has room for more blocks.
+pub fn back(x: &[u64], y: &[u64], layout: &[LaidBlock], mines: &mut [Set], rows: &mut [Set])
+    requires whole { Whole x.now }
+    requires laid { Laid y.now layout.now }
+    requires x_bound { (block_count x.now ≤ length mines.old) × (length rows.old ≡ table_size) }
+    ensures end_rows { EndRows x.now y.now mines.new rows.new }
+    ensures mines_len_unchanged { (length mines.new ≡ length mines.old) × (length rows.new ≡ length rows.old) }
+{
+    back_laid(x, y, &layout[..y.len() / shapes::SIZE], mines, rows)
 }

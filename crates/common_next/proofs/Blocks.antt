@@ -21,13 +21,12 @@ use Rattle.rows.specs.Row.{row_in, slot_in}
 use Rattle.rows.specs.declared.LaidBlock.{LaidBlock}
 use Rattle.rows.specs.Steps.{MeetsOne}
 use Rattle.row_lay.proofs.Laid.{total_zero, total_more, total_all, upper_within}
-use Rattle.row_paths.specs.Laid.{Laid}
-use Rattle.row_paths.proofs.Lent.{slot_rows_at}
 use Rattle.row_paths.proofs.Shapes.{held_within}
 use Rattle.common_back.specs.Back.{EndRows}
-use Rattle.common_weighs.specs.declared.Chosen.{Chosen as Found}
-use Rattle.common_weighs.specs.Next.{BothTake, none}
+use Rattle.common_weighs.specs.declared.Weighed.{Weighed}
+use Rattle.common_weighs.specs.Next.{BothTake, none, Slotted}
 use Rattle.common_weighs.specs.Code.{NearHas, ChosenBy, Weighing, WeighedAll, Enough}
+use Rattle.common_weighs.proofs.Ends.{slot_row, slotted_rows}
 use Rattle.common_weighs.proofs.Weighing.{least_more, may_as, settle}
 
 -- all characters there are
@@ -35,34 +34,34 @@ pub near_all : {y : List ℕ} {Q near : ℕ} → Exactly near (λ c. c < 256) �
 near_all x = record { all = λ j c b q h. x.has c b }
 
 -- every character at the positions Q
-pub near_of : {y : List ℕ} {t : List LaidBlock} → Laid y t → {k : ℕ} → k ≡ block_count y → (Q : ℕ) {near : ℕ} → Exactly near (MeetsOne (slot_in t) (λ i. (block_at y i).base) k Q) → NearHas y Q near
+pub near_of : {y : List ℕ} {t : List LaidBlock} → Slotted y t → {k : ℕ} → k ≡ block_count y → (Q : ℕ) {near : ℕ} → Exactly near (MeetsOne (slot_in t) (λ i. (block_at y i).base) k Q) → NearHas y Q near
 near_of {y} l d Q x = record {
   all = λ j c b q h.
-      let r = slot_rows_at y d l.lay in
+      let r = slotted_rows l d in
       let f = r.find j c h in
       x.has c (record { number = f.0; below = f.1; meets = record { shared = j; first = q; second = f.2 }; held = subst (λ (v : ℕ). Holds v c) (r.base f.0 j f.1 f.2) h });
 }
 
 -- ---- the slots of block a
 
-module _ {x : List ℕ} {t : List LaidBlock} (l : Laid x t) {a : ℕ} (h : a < block_count x) where
+module _ {x : List ℕ} {t : List LaidBlock} (l : Slotted x t) {a : ℕ} (h : a < block_count x) where
   -- a position of its row is one of its slots
   slot : (i : ℕ) → Holds (slot_in t a) i → (total (take a (shape_of x)) ≤ i) × (i < total (take (a + 1) (shape_of x))) × ((slot_at (shape_of x) i).base ≡ (block_at x a).base)
   slot i g =
       let n = shape_length x in
-      let w = (l.lay.slot a (omega arith)).so i g in
+      let w = (slot_row l h).so i g in
       let low = w.0 in
       let high = w.1 in
       let u = ap (λ (b : Block). b.upper) (shape_at x a no_block h) in
       let m = total_more x a h in
-      (low, omega arith, (slot_rows_at x refl l.lay).base a i h g)
+      (low, omega arith, (slotted_rows l refl).base a i h g)
 
   in_slot : (i : ℕ) → total (take a (shape_of x)) ≤ i → i < total (take (a + 1) (shape_of x)) → Holds (slot_in t a) i
   in_slot i low high =
       let n = shape_length x in
       let u = ap (λ (b : Block). b.upper) (shape_at x a no_block h) in
       let m = total_more x a h in
-      (l.lay.slot a (omega arith)).has i (low, omega arith)
+      (slot_row l h).has i (low, omega arith)
 
 module _ (x y : List ℕ) (P Q : ℕ) where
   abbrev Chosen : (ℕ → Type 0) → ℕ → ℕ → Type 0
@@ -73,7 +72,7 @@ module _ (x y : List ℕ) (P Q : ℕ) where
 
   -- ---- one block
 
-  module _ {t : List LaidBlock} (l : Laid x t) {a : ℕ} (h : a < block_count x) where
+  module _ {t : List LaidBlock} (l : Slotted x t) {a : ℕ} (h : a < block_count x) where
     pub block_begun : {left code kept seen : ℕ} → Exactly left (λ i. Holds P i × Holds (slot_in t a) i) → seen ≡ 0 → Chosen (λ i. Holds P i × (i < total (take a (shape_of x)))) code kept
         → Weigh (block_at x a).base (total (take (a + 1) (shape_of x))) left code kept seen
     unfolding Empty
@@ -131,19 +130,19 @@ module _ (x y : List ℕ) (P Q : ℕ) where
 
   -- ---- from one block to the next
 
-  module _ {t : List LaidBlock} {mines rows : List Set} (l : Laid x t) (ends : EndRows x y mines rows) {a : ℕ} (h : a < block_count x) {left : ℕ} (at : Exactly left (λ i. Holds P i × Holds (slot_in t a) i)) where
+  module _ {t : List LaidBlock} {mines rows : List Set} (l : Slotted x t) (ends : EndRows x y mines rows) {a : ℕ} (h : a < block_count x) {left : ℕ} (at : Exactly left (λ i. Holds P i × Holds (slot_in t a) i)) where
     -- its positions are within the shape
     members_within : (i : ℕ) → Holds left i → i < total (shape_of x)
     members_within i g = let w = (slot l h i (at.so i g).1).1 in let m = total_more x a h in let u = upper_within x a h in omega arith
 
     pub members_small : (i : ℕ) → Holds left i → i < 250
-    members_small i g = let w = members_within i g in let b = l.whole.short in omega arith
+    members_small i g = let w = members_within i g in let b = l.laid.whole.short in omega arith
 
-    pub block_found : {near usable least beside base : ℕ} (g r : Found) → base < 2 ^ codes → NearHas y Q near → base ≡ (block_at x a).base → usable ≡ bit_and base near → Least usable least → least < 256
+    pub block_found : {near usable least beside base : ℕ} (g r : Weighed) → set_of g.seen ≡ 0 → base < 2 ^ codes → NearHas y Q near → base ≡ (block_at x a).base → usable ≡ bit_and base near → Least usable least → least < 256
         → beside ≡ bit_and Q (row_in mines a) → WeighedAll y rows base least beside left g r
-        → Chosen (λ i. Holds P i × (i < total (take a (shape_of x)))) g.code (set_of g.kept) → Chosen (λ i. Holds P i × (i < total (take (a + 1) (shape_of x)))) r.code (set_of r.kept)
-    block_found {near} {usable} {least} {beside} {base} g r small n e u f b be w v =
-        ⊎_elim (λ z. all_settled got.weighing z) (λ le. enough_settled got.weighing (subst (λ (q : ℕ). q < 2 ^ codes) e small) n used least f b le) got.enough
+        → Chosen (λ i. Holds P i × (i < total (take a (shape_of x)))) g.found.code (set_of g.found.kept) → Chosen (λ i. Holds P i × (i < total (take (a + 1) (shape_of x)))) r.found.code (set_of r.found.kept)
+    block_found {near} {usable} {least} {beside} {base} g r z small n e u f b be w v =
+        ⊎_elim (λ q. all_settled got.weighing q) (λ le. enough_settled got.weighing (subst (λ (q : ℕ). q < 2 ^ codes) e small) n used least f b le) got.enough
       where
         used : usable ≡ bit_and (block_at x a).base near
         used = u ∙ ap (λ (q : ℕ). bit_and q near) e
@@ -157,7 +156,7 @@ module _ (x y : List ℕ) (P Q : ℕ) where
         got : Enough (slot_at (shape_of x)) (slot_at (shape_of y)) (total (shape_of x)) (total (shape_of y)) P Q (block_at x a).base (total (take (a + 1) (shape_of x))) least r
         got = (subst (λ (q : ℕ). WeighedAll y rows q least beside left g r) e w).holds (slot_at (shape_of x)) (total (shape_of x)) (total (shape_of y)) P Q (total (take (a + 1) (shape_of x))) meets
             (λ i q. ends.row (i + 1) (let w = members_within i q in omega arith))
-            (block_begun l h at refl v)
+            (block_begun l h at z v)
 
   -- ---- all blocks
 

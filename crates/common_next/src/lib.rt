@@ -8,12 +8,11 @@ ghost use Rattle.sets.specs.Set.{set_of, Exactly};
 ghost use Rattle.shapes.specs.Shape.{block_count};
 ghost use Rattle.shapes.specs.Lent.{shape_of};
 ghost use Rattle.walks.specs.Walk.{slot_at};
-ghost use Rattle.row_paths.specs.Laid.{Laid};
 ghost use Rattle.common_back.specs.Back.{EndRows};
-ghost use Rattle.common_weighs.specs.Next.{RunsEnded, After, RunEnds};
+ghost use Rattle.common_weighs.specs.Next.{RunsEnded, After, RunEnds, Slotted};
 ghost use Rattle.common_weighs.specs.Code.{NearHas, ChosenBy, ChosenTo};
 
-use common_weighs::{Both, Chosen};
+use common_weighs::{Both, Chosen, Weighed};
 use row_steps::Runs;
 use rows::LaidBlock;
 use sets::Set;
@@ -26,9 +25,9 @@ pub struct Front {
     pub runs: Runs,
 }
 
-// Where the character may stand: as before if it is the same again.
+// Where the character may stand: as before if it is the same again. The layout may have room for more blocks.
 fn taking(shape: &[u64], layout: &[LaidBlock], takes: Set, again: bool, code: usize) -> Set
-    requires laid { Laid shape.now layout.now }
+    requires slotted { Slotted shape.now layout.now }
     requires code_bound { code < 256 }
     requires exactly { again ≡ true → Exactly (set_of takes) (λ q. Holds (slot_at (shape_of shape.now) q).base code) }
     ensures { Exactly (set_of result) (λ q. Holds (slot_at (shape_of shape.now) q).base code) }
@@ -36,7 +35,8 @@ fn taking(shape: &[u64], layout: &[LaidBlock], takes: Set, again: bool, code: us
     if again {
         return takes;
     }
-    row_steps::matching(sets::single(code), shape, layout)
+    let laid = &layout[..shape.len() / shapes::SIZE];
+    row_steps::matching(sets::single(code), shape, laid)
 }
 
 // A row with what the ends of runs lead to from it; nothing more where no run may end.
@@ -51,7 +51,7 @@ fn onward(runs: Runs, s: Set) -> Set
 
 // One shape read one character on.
 pub fn read(shape: &[u64], layout: &[LaidBlock], side: Front, again: bool, code: usize) -> Front
-    requires laid { Laid shape.now layout.now }
+    requires slotted { Slotted shape.now layout.now }
     requires code_bound { (code < 256) × RunEnds shape.now (set_of side.runs.free) (set_of side.runs.stops) }
     requires exactly { again ≡ true → Exactly (set_of side.takes) (λ q. Holds (slot_at (shape_of shape.now) q).base code) }
     ensures exactly_2 { Exactly (set_of result.takes) (λ q. Holds (slot_at (shape_of shape.now) q).base code) }
@@ -69,7 +69,7 @@ pub fn read(shape: &[u64], layout: &[LaidBlock], side: Front, again: bool, code:
 
 // Block a: its positions are weighed as far as need be; `near` has the characters at the positions `other` of y.
 fn weigh_block(both: &Both, a: usize, own: Set, other: Set, near: Set, found: Chosen) -> Chosen
-    requires laid { Laid both.now.x.now both.now.layout_x.now × Laid both.now.y.now both.now.layout_y.now }
+    requires slotted { Slotted both.now.x.now both.now.layout_x.now × Slotted both.now.y.now both.now.layout_y.now }
     requires end_rows { EndRows both.now.x.now both.now.y.now both.now.mines.now both.now.rows.now }
     requires a_bound { a < block_count both.now.x.now }
     requires near_has { NearHas both.now.y.now (set_of other) (set_of near) }
@@ -84,25 +84,29 @@ fn weigh_block(both: &Both, a: usize, own: Set, other: Set, near: Set, found: Ch
     }
     let least = sets::first(usable);
     let beside = sets::both(other, both.mines[a]);
-    common_weighs::weigh_all(both, b.base, least, beside, left, found)
+    let begun = Weighed {
+        found,
+        seen: sets::none(),
+    };
+    common_weighs::weigh_all(both, b.base, least, beside, left, begun).found
 }
 
 // The characters at the positions `other` of y. Where there is at most one position to weigh they are not asked for,
 // and all will do.
 fn nearby(own: Set, other: Set, y: &[u64], layout: &[LaidBlock]) -> Set
-    requires { Laid y.now layout.now }
+    requires { Slotted y.now layout.now }
     ensures { NearHas y.now (set_of other) (set_of result) }
 {
     if sets::is_empty(own) || sets::first(own) == sets::last(own) {
         return sets::below(256);
     }
-    row_steps::joined(other, y, layout)
+    row_steps::joined(other, y, &layout[..y.len() / shapes::SIZE])
 }
 
 // The least character that may come next where the text so far leads to the positions `own` of x and `other` of y; 256
 // if none may.
 pub fn next(both: &Both, own: Set, other: Set) -> Chosen
-    requires laid { Laid both.now.x.now both.now.layout_x.now × Laid both.now.y.now both.now.layout_y.now }
+    requires slotted { Slotted both.now.x.now both.now.layout_x.now × Slotted both.now.y.now both.now.layout_y.now }
     requires end_rows { EndRows both.now.x.now both.now.y.now both.now.mines.now both.now.rows.now }
     ensures { ChosenBy both.now.x.now both.now.y.now (Holds (set_of own)) (set_of own) (set_of other) result.code (set_of result.kept) }
 {
@@ -111,7 +115,7 @@ pub fn next(both: &Both, own: Set, other: Set) -> Chosen
         code: 256,
         kept: own,
     };
-    for a in 0..both.layout_x.len() {
+    for a in 0..both.x.len() / shapes::SIZE {
         if sets::meets(own, both.layout_x[a].slot) {
             g = weigh_block(both, a, own, other, near, g);
         }

@@ -17,20 +17,18 @@ pub fn earliest(x: &[u64], y: &[u64], out: &mut [u8]) -> Option<usize>
     requires in_bounds { 250 ≤ length out.old }
     ensures { ShowAnswer x.now y.now out.old out.new result }
 {
-    let mut room_x = rows::blank_layout::<32>();
-    let own = row_lay::lay(x, &mut room_x);
-    let layout_x = &room_x[..x.len() / shapes::SIZE];
-    let mut room_y = rows::blank_layout::<32>();
-    let other = row_lay::lay(y, &mut room_y);
-    let layout_y = &room_y[..y.len() / shapes::SIZE];
-    let mut mines = rows::blank::<32>();
-    let mut rows = rows::blank::<251>();
-    common_back::back(x, y, layout_y, &mut mines, &mut rows);
+    let mut layout_x = rows::blank_layout::<{ rows::LAYOUT }>();
+    let own = row_lay::lay(x, &mut layout_x);
+    let mut layout_y = rows::blank_layout::<{ rows::LAYOUT }>();
+    let other = row_lay::lay(y, &mut layout_y);
+    let mut mines = rows::blank::<{ rows::LAYOUT }>();
+    let mut rows = rows::blank::<{ rows::TABLE }>();
+    common_back::back(x, y, &layout_y, &mut mines, &mut rows);
     let both = Both {
         x,
         y,
-        layout_x,
-        layout_y,
+        layout_x: &layout_x,
+        layout_y: &layout_y,
         mines: &mines,
         rows: &rows,
     };

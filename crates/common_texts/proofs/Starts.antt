@@ -17,24 +17,24 @@ use Rattle.walks.proofs.Fillings.{filling_walk, walk_fits}
 use Rattle.rows.specs.Row.{row_in, zone_in, end_in, slot_in}
 use Rattle.rows.specs.declared.LaidBlock.{LaidBlock}
 use Rattle.rows.specs.Steps.{Leads, MeetsOne, Together}
-use Rattle.row_paths.specs.Laid.{Laid}
-use Rattle.row_paths.proofs.Laid.{laid_zones}
+use Rattle.row_paths.specs.Laid.{LaidOut}
+use Rattle.row_paths.proofs.Laid.{laid_in, laid_zones}
 use Rattle.common_back.specs.Back.{EndRows}
 use Rattle.common_next.specs.declared.Front.{Front}
-use Rattle.common_weighs.proofs.Ends.{ended_row, takes_char}
+use Rattle.common_weighs.proofs.Ends.{ended_row, slotted_of, takes_char}
 use Rattle.common_texts.specs.Earliest.{TextShown, NothingShown}
 use Rattle.common_writes.specs.Code.{Finishes, Meeting, Stands, Started, EarliestWritten}
 
 -- ---- the start
 
-pub started : {x : List ℕ} {t : List LaidBlock} → Laid x t → {s : Front} {k one two : ℕ} → k ≡ block_count x → Exactly one (λ c. c ≡ 0) → Exactly (set_of s.row) (Leads (end_in t) (zone_in t) k one)
+pub started : {x : List ℕ} {t : List LaidBlock} → LaidOut x t → {s : Front} {k one two : ℕ} → k ≡ block_count x → Exactly one (λ c. c ≡ 0) → Exactly (set_of s.row) (Leads (end_in t) (zone_in t) k one)
     → Exactly two (λ c. c ≡ 0) → Exactly (set_of s.takes) (MeetsOne (λ j. (block_at x j).base) (slot_in t) k two) → Together (zone_in t) (end_in t) k (set_of s.runs.free) (set_of s.runs.stops) → Started x s
 started {x} {t} d {s = s} e o r o' m f = record {
   row = exactly_as
       (λ q w. subst (λ (p : ℕ). Walk (slot_at (shape_of x)) q p []) (o.so w.from w.held) w.walk)
       (λ q w. record { from = 0; held = o.has 0 refl; walk = w })
       (ended_row (laid_zones d e) r);
-  takes = takes_char d e o' m;
+  takes = takes_char (slotted_of (laid_in d)) e o' m;
   runs = record { layout = _; laid = d; all = subst (λ (n : ℕ). Together (zone_in t) (end_in t) n (set_of s.runs.free) (set_of s.runs.stops)) e f };
 }
 

@@ -5,7 +5,7 @@
 ghost use Rattle.std.specs.Prelude.{◌≡◌, ◌≤◌, length};
 ghost use Rattle.shapes.specs.Shape.{total};
 ghost use Rattle.shapes.specs.Lent.{shape_of};
-ghost use Rattle.row_paths.specs.Laid.{Laid};
+ghost use Rattle.row_paths.specs.Laid.{Laid, LaidOut};
 ghost use Rattle.common_back.specs.Back.{EndRows};
 ghost use Rattle.common_writes.specs.Code.{Started};
 ghost use Rattle.common_texts.specs.Earliest.{ShowAnswer};
@@ -17,7 +17,7 @@ use rows::LaidBlock;
 
 // Where a shape stands before the first character.
 fn start(shape: &[u64], layout: &[LaidBlock]) -> Front
-    requires { Laid shape.now layout.now }
+    requires { LaidOut shape.now layout.now }
     ensures { Started shape.now result }
 {
     let runs = row_steps::all_runs(layout);
@@ -39,7 +39,7 @@ pub fn earliest_laid(both: &Both, last: Totals, out: &mut [u8]) -> Option<usize>
     if !sets::has(both.rows[0], 0) {
         return None;
     }
-    let own = start(both.x, both.layout_x);
-    let other = start(both.y, both.layout_y);
+    let own = start(both.x, &both.layout_x[..both.x.len() / shapes::SIZE]);
+    let other = start(both.y, &both.layout_y[..both.y.len() / shapes::SIZE]);
     Some(common_writes::write(both, last, last.own, 0, own, other, out))
 }

@@ -1,30 +1,33 @@
 -- A row closed forwards under the ends of runs, and one character on; which positions and characters two bases share.
 -- Assumes nothing.
-use mathlib.Core.Path.{◌≡◌, refl, sym, subst}
+use mathlib.Core.Path.{◌≡◌, refl, sym, ap, ◌∙◌, subst}
 use mathlib.Core.List.{List, []}
 use mathlib.Core.Logic.{inl, inr, ⊎_elim}
 use Rattle.std.proofs.Common.{min}
 use Prim.Native.Nat.{ℕ, ◌+◌, ◌*◌, ◌%◌, ◌^◌, ◌≤◌, ◌<◌}
 use native.Mathlib.Omega.{arith}
 use lib.Bits.{bit_and}
+use lib.ListN.{get_or, take}
+use lib.Seq.{get_or-take, length-take-le}
 use Rattle.plain.proofs.Plain.{lt_or_le}
 use Rattle.bases.specs.Base.{Holds, Empty, Meets, Least}
-use Rattle.sets.specs.Set.{Exactly, OneUp}
-use Rattle.sets.proofs.Exact.{exactly_as, both_exactly, up_exactly}
-use Rattle.shapes.specs.Shape.{Block, total, block_count}
+use Rattle.sets.specs.Set.{set_of, Exactly, OneUp}
+use Rattle.sets.proofs.Exact.{exactly_as, exactly_at, both_exactly, up_exactly}
+use Rattle.shapes.specs.Shape.{Block, no_block, total, block_count}
 use Rattle.shapes.specs.Lent.{shape_of, block_at}
+use Rattle.shapes.proofs.Lent.{shape_length}
 use Rattle.walks.specs.Walk.{Walk, here, skip, slot_at}
 use Rattle.walks.proofs.Walks.{walk_append}
-use Rattle.rows.specs.Row.{slot_in}
+use Rattle.rows.specs.Row.{no_laid, slot_in}
 use Rattle.rows.specs.declared.LaidBlock.{LaidBlock}
 use Rattle.rows.specs.Steps.{Leads, there, step, MeetsOne}
 use Rattle.row_paths.specs.Laid.{Laid}
 use Rattle.row_paths.specs.Rows.{Zones}
 use Rattle.row_paths.proofs.Chars.{SlotRows}
-use Rattle.row_paths.proofs.Laid.{laid_zones, laid_meets}
+use Rattle.row_paths.proofs.Laid.{part_of, laid_zones, laid_meets}
 use Rattle.row_paths.proofs.Shapes.{held_within}
 use Rattle.row_paths.proofs.Lent.{slot_rows_at}
-use Rattle.common_weighs.specs.Next.{RunsEnded, After, RunEnds}
+use Rattle.common_weighs.specs.Next.{RunsEnded, After, RunEnds, Slotted}
 use Rattle.common_weighs.specs.Code.{SharedAt, Sooner}
 
 -- ---- the ends of runs
@@ -75,14 +78,51 @@ row_after_lem x row takes c {a} {u} short t d e y = exactly_as to from y
         let b = held_within (shape_of x) w.from c w.takes in
         record { from = w.from + 1; held = up.has (w.from + 1) (omega arith, record { number = w.from; held = held.has w.from (w.held, t.has w.from w.takes); next = refl }); walk = w.ends }
 
+-- ---- what the rows of a shape's positions say, whatever its zones and ends
+
+module _ {x : List ℕ} {t : List LaidBlock} (l : Slotted x t) where
+  pub slot_row : {a : ℕ} → a < block_count x → Exactly (slot_in t a) (λ q. (total (take a (shape_of x)) ≤ q) × (q < total (take a (shape_of x)) + (get_or (shape_of x) a no_block).upper))
+  slot_row {a} h = exactly_at (l.same a h) (l.laid.lay.slot a (let n = shape_length x in omega arith))
+
+  pub slotted_rows : {k : ℕ} → k ≡ block_count x → SlotRows (slot_at (shape_of x)) (λ j. (block_at x j).base) (slot_in t) k
+  slotted_rows {k} d = let r = slot_rows_at x d l.laid.lay in record {
+    base = λ j q h g. r.base j q h (subst (λ (v : ℕ). Holds v q) (l.same j (omega arith)) g);
+    find = λ q c h. let f = r.find q c h in let b = f.1 in (f.0, f.1, subst (λ (v : ℕ). Holds v q) (sym (l.same f.0 (omega arith))) f.2);
+  }
+
+  -- the positions whose base meets a base
+  slotted_meets : {k base n : ℕ} → k ≡ block_count x → Exactly n (MeetsOne (λ j. (block_at x j).base) (slot_in t) k base) → Exactly n (λ i. Meets (slot_at (shape_of x) i).base base)
+  slotted_meets d y = laid_meets l.laid d (exactly_as
+      (λ q m. let b = m.below in record { number = m.number; below = b; meets = m.meets; held = subst (λ (v : ℕ). Holds v q) (l.same m.number (omega arith)) m.held })
+      (λ q m. let b = m.below in record { number = m.number; below = b; meets = m.meets; held = subst (λ (v : ℕ). Holds v q) (sym (l.same m.number (omega arith))) m.held })
+      y)
+
+  -- a layout of a part that has as many structs as the shape has blocks
+  pub slotted_part : Slotted x (take (block_count x) t)
+  slotted_part = record {
+    other = l.other;
+    laid = l.laid;
+    same = λ j h. ap (λ (r : LaidBlock). set_of r.slot) (get_or-take (block_count x) t j no_laid h) ∙ l.same j h;
+    long = let e = length-take-le (block_count x) t l.long in omega arith;
+  }
+
+-- those of a layout are
+pub slotted_of : {x : List ℕ} {t : List LaidBlock} → Laid x t → Slotted x t
+slotted_of {x} {t} l = record {
+  other = take (block_count x) t;
+  laid = part_of l;
+  same = λ j h. ap (λ (r : LaidBlock). set_of r.slot) (sym (get_or-take (block_count x) t j no_laid h));
+  long = l.long;
+}
+
 -- ---- the positions that take a character
 
-pub takes_char : {x : List ℕ} {t : List LaidBlock} → Laid x t → {k one m code : ℕ} → k ≡ block_count x → Exactly one (λ c. c ≡ code)
+pub takes_char : {x : List ℕ} {t : List LaidBlock} → Slotted x t → {k one m code : ℕ} → k ≡ block_count x → Exactly one (λ c. c ≡ code)
     → Exactly m (MeetsOne (λ j. (block_at x j).base) (slot_in t) k one) → Exactly m (λ q. Holds (slot_at (shape_of x) q).base code)
 takes_char {x} l {code = code} d o y = exactly_as
     (λ q m. subst (Holds (slot_at (shape_of x) q).base) (o.so m.shared m.second) m.first)
     (λ q h. record { shared = code; first = h; second = o.has code refl })
-    (laid_meets l d y)
+    (slotted_meets l d y)
 
 -- ---- the characters that a base shares with those at some positions
 
@@ -108,9 +148,9 @@ module _ {Y : ℕ → Block} {B S : ℕ → ℕ} {k : ℕ} (s : SlotRows Y B S k
             }),
           )
 
-pub shared_row : {y : List ℕ} {t : List LaidBlock} → Laid y t → {k : ℕ} → k ≡ block_count y → (base row : ℕ) {j n : ℕ} → Exactly j (MeetsOne (slot_in t) (λ i. (block_at y i).base) k row) → n ≡ bit_and base j
+pub shared_row : {y : List ℕ} {t : List LaidBlock} → Slotted y t → {k : ℕ} → k ≡ block_count y → (base row : ℕ) {j n : ℕ} → Exactly j (MeetsOne (slot_in t) (λ i. (block_at y i).base) k row) → n ≡ bit_and base j
     → Exactly n (SharedAt (slot_at (shape_of y)) base row)
-shared_row {y} l d base row x e = shared_in (slot_rows_at y d l.lay) base row x e
+shared_row l d base row x e = shared_in (slotted_rows l d) base row x e
 
 -- the least of them, or the one that was there
 

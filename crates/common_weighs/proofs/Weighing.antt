@@ -172,13 +172,5 @@ module _ {y : List ℕ} {rows : List Set} {base beside : ℕ} where
         (live_beside i row beside base Q (exactly_at re (t i (v.inside i at))) b de he) by;
   }
 
-  pub weighed_all : {least left₀ left : ℕ} (g₀ g : Weighed) → set_of g₀.seen ≡ 0 → WeighedTo y rows base beside left₀ g₀ left g → Empty left ⊎ (g.found.code ≤ least)
-      → WeighedAll y rows base least beside left₀ g₀.found g.found
-  weighed_all {left₀ = left₀} {left} g₀ g e v s = record {
-    holds = λ X U W P Q E b t w. record {
-      left = left;
-      seen = set_of g.seen;
-      weighing = v.holds X U W P Q E b t (subst (Weighing X (slot_at (shape_of y)) U W P Q base E left₀ g₀.found.code (set_of g₀.found.kept)) (sym e) w);
-      enough = s;
-    };
-  }
+  pub weighed_all : {least left₀ left : ℕ} (g₀ g : Weighed) → WeighedTo y rows base beside left₀ g₀ left g → Empty left ⊎ (g.found.code ≤ least) → WeighedAll y rows base least beside left₀ g₀ g
+  weighed_all {left = left} g₀ g v s = record { holds = λ X U W P Q E b t w. record { left = left; weighing = v.holds X U W P Q E b t w; enough = s } }

@@ -47,16 +47,15 @@ pub data WeighedBy (Y : ℕ → Block) (base here i : ℕ) (g r : Weighed) : Typ
 -- Of `members`, positions with one base, enough are weighed, for each X that has the base there, and whatever leads to
 -- P and Q: none is left, or none can bring a character before `least`. `beside` has the positions of Q whose base meets
 -- it.
-pub record Enough (X Y : ℕ → Block) (U W P Q base E least : ℕ) (g : Chosen) : Type 0 where
+pub record Enough (X Y : ℕ → Block) (U W P Q base E least : ℕ) (g : Weighed) : Type 0 where
   pub left : ℕ
-  pub seen : ℕ
-  pub weighing : Weighing X Y U W P Q base E left g.code (set_of g.kept) seen
-  pub enough : Empty left ⊎ (g.code ≤ least)
+  pub weighing : WeighingAt X Y U W P Q base E left g
+  pub enough : Empty left ⊎ (g.found.code ≤ least)
 
-pub record WeighedAll (y : List ℕ) (rows : List Set) (base least beside members : ℕ) (begun g : Chosen) : Type 0 where
+pub record WeighedAll (y : List ℕ) (rows : List Set) (base least beside members : ℕ) (begun g : Weighed) : Type 0 where
   pub holds : (X : ℕ → Block) (U W P Q E : ℕ) → Exactly beside (λ j. Holds Q j × Meets base (slot_at (shape_of y) j).base)
       → ((i : ℕ) → Holds members i → Exactly (row_in rows (i + 1)) (λ j. Path X (slot_at (shape_of y)) U W (i + 1) j))
-      → Weighing X (slot_at (shape_of y)) U W P Q base E members begun.code (set_of begun.kept) 0 → Enough X (slot_at (shape_of y)) U W P Q base E least g
+      → WeighingAt X (slot_at (shape_of y)) U W P Q base E members begun → Enough X (slot_at (shape_of y)) U W P Q base E least g
 
 -- Near has every character at the positions Q of the shape y.
 pub record NearHas (y : List ℕ) (Q near : ℕ) : Type 0 where

@@ -1,13 +1,13 @@
 -- Document 02, order 2, one character at a time. P and Q are the positions of the two shapes to which the text so far
 -- leads; X and Y say what the shapes allow at each position up to their ends U and W.
-use Rattle.std.specs.Prelude.{◌≡◌, List, [], ℕ, ◌+◌, ◌≤◌, ◌<◌}
+use Rattle.std.specs.Prelude.{◌≡◌, List, [], ℕ, ◌+◌, ◌≤◌, ◌<◌, length}
 use Rattle.bases.specs.Base.{Holds}
 use Rattle.shapes.specs.Shape.{Block, block_count}
 use Rattle.walks.specs.Walk.{Walk, Path}
-use Rattle.rows.specs.Row.{zone_in, end_in}
+use Rattle.rows.specs.Row.{zone_in, end_in, slot_in}
 use Rattle.rows.specs.declared.LaidBlock.{LaidBlock}
 use Rattle.rows.specs.Steps.{Together}
-use Rattle.row_paths.specs.Laid.{Laid}
+use Rattle.row_paths.specs.Laid.{LaidOut}
 
 -- Both take c, at i and j, and from there one text leads both to their ends.
 pub record BothTake (X Y : ℕ → Block) (U W i j c : ℕ) : Type 0 where
@@ -49,5 +49,13 @@ pub record After (X : ℕ → Block) (P c q : ℕ) : Type 0 where
 -- Where a run of the shape x may end, and where it then is: all zones and all ends of its layout.
 pub record RunEnds (x : List ℕ) (free stops : ℕ) : Type 0 where
   pub layout : List LaidBlock
-  pub laid : Laid x layout
+  pub laid : LaidOut x layout
   pub all : Together (zone_in layout) (end_in layout) (block_count x) free stops
+
+-- A lent shape and the rows of its blocks' positions, with room for all of them. Nothing is asked of where its runs may
+-- end: they are those of some layout of the shape.
+pub record Slotted (x : List ℕ) (layout : List LaidBlock) : Type 0 where
+  pub other : List LaidBlock
+  pub laid : LaidOut x other
+  pub same : (j : ℕ) → j < block_count x → slot_in layout j ≡ slot_in other j
+  pub long : block_count x ≤ length layout

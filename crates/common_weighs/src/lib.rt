@@ -8,7 +8,7 @@ ghost use Rattle.sets.specs.Set.{set_of};
 ghost use Rattle.shapes.specs.Lent.{shape_of};
 ghost use Rattle.rows.specs.Row.{table_size};
 ghost use Rattle.walks.specs.Walk.{slot_at};
-ghost use Rattle.row_paths.specs.Laid.{Laid};
+ghost use Rattle.common_weighs.specs.Next.{Slotted};
 ghost use Rattle.common_weighs.specs.Code.{Sooner, WeighedBy, WeighedAll};
 
 use rows::LaidBlock;
@@ -35,20 +35,22 @@ pub struct Chosen {
 
 // The same while the positions of one block are weighed, with those of the other shape that were seen beside them.
 #[derive(Clone, Copy)]
-struct Weighed {
-    found: Chosen,
-    seen: Set,
+pub struct Weighed {
+    pub found: Chosen,
+    pub seen: Set,
 }
 
-// The least character that a base shares with the bases at some positions of y, or `code` where that comes sooner.
+// The least character that a base shares with the bases at some positions of y, or `code` where that comes sooner. The
+// layout may have room for more blocks.
 fn sooner(code: usize, base: Set, row: Set, y: &[u64], layout: &[LaidBlock]) -> usize
-    requires { Laid y.now layout.now }
+    requires { Slotted y.now layout.now }
     ensures { Sooner (slot_at (shape_of y.now)) (set_of base) (set_of row) code result }
 {
     if sets::is_empty(row) {
         return code;
     }
-    let shared = sets::both(base, row_steps::joined(row, y, layout));
+    let laid = &layout[..y.len() / shapes::SIZE];
+    let shared = sets::both(base, row_steps::joined(row, y, laid));
     if sets::is_empty(shared) {
         return code;
     }
@@ -57,7 +59,7 @@ fn sooner(code: usize, base: Set, row: Set, y: &[u64], layout: &[LaidBlock]) -> 
 
 // One position i, beside which both can take a character at the positions `here` of y.
 fn weigh(y: &[u64], layout: &[LaidBlock], base: Set, here: Set, i: usize, g: Weighed) -> Weighed
-    requires laid { Laid y.now layout.now }
+    requires slotted { Slotted y.now layout.now }
     requires i_bound { i < 256 }
     ensures { WeighedBy (slot_at (shape_of y.now)) (set_of base) (set_of here) i g result }
 {
@@ -88,25 +90,22 @@ pub fn weigh_all(
     least: usize,
     beside: Set,
     members: Set,
-    begun: Chosen,
-) -> Chosen
-    requires laid { Laid both.now.y.now both.now.layout_y.now × (length both.now.rows.now ≡ table_size) }
+    begun: Weighed,
+) -> Weighed
+    requires slotted { Slotted both.now.y.now both.now.layout_y.now × (length both.now.rows.now ≡ table_size) }
     requires by_index { (i : ℕ) → Holds (set_of members) i → i < 250 }
     ensures { WeighedAll both.now.y.now both.now.rows.now (set_of base) least (set_of beside) (set_of members) begun result }
 {
     let mut left = members;
-    let mut g = Weighed {
-        found: begun,
-        seen: sets::none(),
-    };
+    let mut g = begun;
     while !sets::is_empty(left) {
         if g.found.code <= least {
-            return g.found;
+            return g;
         }
         let i = sets::first(left);
         left = sets::without(left, sets::single(i));
         let here = sets::both(sets::down(both.rows[i + 1]), beside);
         g = weigh(both.y, both.layout_y, base, here, i, g);
     }
-    g.found
+    g
 }

@@ -8,10 +8,9 @@ use Rattle.shapes.specs.Lent.{shape_of}
 use Rattle.texts.specs.Order.{AtMost}
 use Rattle.walks.specs.Walk.{Walk, Path, slot_at}
 use Rattle.rows.specs.declared.LaidBlock.{LaidBlock}
-use Rattle.row_paths.specs.Laid.{Laid}
 use Rattle.common_back.specs.Back.{EndRows}
 use Rattle.common_next.specs.declared.Front.{Front}
-use Rattle.common_weighs.specs.Next.{RunEnds}
+use Rattle.common_weighs.specs.Next.{RunEnds, Slotted}
 
 -- From one of the positions P the text t is read to the end U.
 pub record Finishes (X : ℕ → Block) (U P : ℕ) (t : List ℕ) : Type 0 where
@@ -39,8 +38,8 @@ pub record Meeting (X Y : ℕ → Block) (U W P Q : ℕ) : Type 0 where
 
 -- Both shapes laid out, and the rows from which both can end.
 pub record BothLaid (x y : List ℕ) (layout-x layout-y : List LaidBlock) (mines rows : List Set) : Type 0 where
-  pub own : Laid x layout-x
-  pub other : Laid y layout-y
+  pub own : Slotted x layout-x
+  pub other : Slotted y layout-y
   pub table : EndRows x y mines rows
 
 -- Where one shape stands: at positions closed under the ends of runs; `takes` are those that can take the character

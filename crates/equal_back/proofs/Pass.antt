@@ -22,7 +22,7 @@ use Rattle.rows.specs.declared.LaidBlock.{LaidBlock}
 use Rattle.rows.specs.Row.{no_set, row_in, zone_in, end_in, slot_in, PutRow}
 use Rattle.rows.specs.Steps.{Given}
 use Rattle.rows.proofs.Rows.{blank_row}
-use Rattle.row_paths.specs.Laid.{Laid}
+use Rattle.row_paths.specs.Laid.{LaidOut}
 use Rattle.row_lay.proofs.Laid.{total_all, total_more, total_zero, upper_within}
 use Rattle.row_paths.specs.Rows.{BlockIn, Shares, Takes, From, Used, Gives}
 use Rattle.row_paths.proofs.Back.{used_none}
@@ -53,7 +53,7 @@ fresh_gathered f x = record {
 pub pass_place : {pad : ℕ} (x : List ℕ) {y : List ℕ} {n p : ℕ} {g : Gathered} {moved : ℕ} {own others : List Set} (i : ℕ) → i < block_count x → n ≡ i + 1 → PassFrom pad x y n p g moved own others → p ≡ total (take i (shape_of x)) + (block_at x i).upper
 pass_place x i l d t = t.place ∙ ap (λ (z : ℕ). total (take z (shape_of x))) d ∙ total_more x i l
 
-module _ (pad : ℕ) (x y : List ℕ) {layout : List LaidBlock} {mines rows : List Set} {last : ℕ} (laid : Laid y layout) (pass : Pass pad x y mines rows last) where
+module _ (pad : ℕ) (x y : List ℕ) {layout : List LaidBlock} {mines rows : List Set} {last : ℕ} (laid : LaidOut y layout) (pass : Pass pad x y mines rows last) where
   pub pass_end : {n p : ℕ} {g : Gathered} {own others others' : List Set} {moved : ℕ} → n ≡ block_count x → p ≡ total (shape_of x) → EndBack pad y p last g
       → moved ≡ set_of g.used → others ≡ replicate (length others) no_set → Given (slot_in layout) (length layout) moved pad (row_in others) (row_in others') → PassFrom pad x y n p g moved own others'
   pass_end {n} {p} {g} {own} {others} {others'} {moved} d f b v o gi = record {

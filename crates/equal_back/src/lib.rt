@@ -10,7 +10,7 @@ ghost use Rattle.shapes.specs.Shape.{total};
 ghost use Rattle.rows.specs.Row.{no_set, zone_in, end_in};
 ghost use Rattle.rows.specs.Steps.{InTurn, Together};
 ghost use Rattle.carries.specs.Climb.{Spans};
-ghost use Rattle.row_paths.specs.Laid.{Laid};
+ghost use Rattle.row_paths.specs.Laid.{Laid, LaidOut};
 ghost use Rattle.equal_forth.specs.Forth.{Pass};
 ghost use Rattle.back_rows.specs.Rows.{Whenever, BlockBack};
 ghost use Rattle.equal_back.specs.Back.{Fresh, EndBack, Roomed, SideTold};
@@ -89,7 +89,7 @@ fn fresh(g: Gathered) -> Gathered
 // What is gathered at the ends n of X and m of Y, where f is the last row of the first pass: X waits, and Y goes on
 // over padding.
 fn at_end(y: &[u64], layout: &[LaidBlock], n: usize, m: usize, pad: Set, f: Set) -> Gathered
-    requires laid { Laid y.now layout.now }
+    requires laid { LaidOut y.now layout.now }
     requires n_bound { (n < 256) × (m ≡ total (shape_of y.now)) }
     ensures { EndBack (set_of pad) y.now n (set_of f) result }
 {
@@ -106,7 +106,7 @@ fn at_end(y: &[u64], layout: &[LaidBlock], n: usize, m: usize, pad: Set, f: Set)
 
 // All blocks of x beside y, from the last to the first: writes the characters of each block of both, and gives where
 // their runs end early and where they take a character. `own` and `others` are blank at first.
-pub fn back(
+fn back_laid(
     x: &[u64],
     y: &[u64],
     layout: &[LaidBlock],
@@ -118,7 +118,7 @@ pub fn back(
     others: &mut [Set],
 ) -> Ways
     requires whole { Whole x.now }
-    requires laid { Laid y.now layout.now }
+    requires laid { LaidOut y.now layout.now }
     requires pass { Pass (set_of pad) x.now y.now mines.now rows.now (set_of last) }
     requires roomed { Roomed x.now y.now mines.now rows.now own.old others.old }
     requires others_value { others.old ≡ replicate (length others.old) no_set }
@@ -149,4 +149,38 @@ pub fn back(
         quit: g.quit,
         moved,
     }
+}
+
+// The same where the layout has room for more blocks.
+pub fn back(
+    x: &[u64],
+    y: &[u64],
+    layout: &[LaidBlock],
+    pad: Set,
+    mines: &[Set],
+    rows: &[Set],
+    last: Set,
+    own: &mut [Set],
+    others: &mut [Set],
+) -> Ways
+    requires whole { Whole x.now }
+    requires laid { Laid y.now layout.now }
+    requires pass { Pass (set_of pad) x.now y.now mines.now rows.now (set_of last) }
+    requires roomed { Roomed x.now y.now mines.now rows.now own.old others.old }
+    requires others_value { others.old ≡ replicate (length others.old) no_set }
+    ensures side_told { SideTold (set_of pad) x.now y.now (set_of result.stops) (set_of result.takes) own.new }
+    ensures side_told_2 { SideTold (set_of pad) y.now x.now (set_of result.quit) (set_of result.moved) others.new }
+    ensures own_len_unchanged { (length own.new ≡ length own.old) × (length others.new ≡ length others.old) }
+{
+    back_laid(
+        x,
+        y,
+        &layout[..y.len() / shapes::SIZE],
+        pad,
+        mines,
+        rows,
+        last,
+        own,
+        others,
+    )
 }

@@ -9,7 +9,7 @@ ghost use Rattle.shapes.specs.Lent.{Whole, meant, shape_of};
 ghost use Rattle.shapes.specs.Shape.{total, block_count};
 ghost use Rattle.rows.specs.Row.{zone_in, end_in};
 ghost use Rattle.rows.specs.Steps.{InTurn, Together};
-ghost use Rattle.row_paths.specs.Laid.{Laid};
+ghost use Rattle.row_paths.specs.Laid.{Laid, LaidOut};
 ghost use Rattle.forth_rows.specs.Rows.{BlockRows, Follows, RowsKept};
 ghost use Rattle.equal_forth.specs.Forth.{Pass, InWords};
 
@@ -66,7 +66,7 @@ fn forth_block(
 
 // The rows of all blocks of x beside y, which is laid out in `layout`; gives the last, in which y alone goes on over
 // padding.
-pub fn forth(
+fn forth_laid(
     x: &[u64],
     y: &[u64],
     layout: &[LaidBlock],
@@ -75,7 +75,7 @@ pub fn forth(
     rows: &mut [Set],
 ) -> Set
     requires whole { Whole x.now }
-    requires laid { Laid y.now layout.now }
+    requires laid { LaidOut y.now layout.now }
     requires x_bound { (block_count x.now ≤ length mines.old) × (total (shape_of x.now) < length rows.old) }
     ensures pass { Pass (set_of pad) x.now y.now mines.new rows.new (set_of result) }
     ensures mines_len_unchanged { (length mines.new ≡ length mines.old) × (length rows.new ≡ length rows.old) }
@@ -95,4 +95,22 @@ pub fn forth(
     let last = pad_rows::trail(y, layout, pad, s);
     rows[p] = last;
     last
+}
+
+// The same where the layout has room for more blocks.
+pub fn forth(
+    x: &[u64],
+    y: &[u64],
+    layout: &[LaidBlock],
+    pad: Set,
+    mines: &mut [Set],
+    rows: &mut [Set],
+) -> Set
+    requires whole { Whole x.now }
+    requires laid { Laid y.now layout.now }
+    requires x_bound { (block_count x.now ≤ length mines.old) × (total (shape_of x.now) < length rows.old) }
+    ensures pass { Pass (set_of pad) x.now y.now mines.new rows.new (set_of result) }
+    ensures mines_len_unchanged { (length mines.new ≡ length mines.old) × (length rows.new ≡ length rows.old) }
+{
+    forth_laid(x, y, &layout[..y.len() / shapes::SIZE], pad, mines, rows)
 }

@@ -38,6 +38,9 @@ module _ (P : ℕ → Type 0) where
         (lt_or_le e j));
   }
 
+  pub collect_end : {w j n : ℕ} → j ≡ n → Exactly w (λ e. (e < j) × P e) → Exactly w (λ e. (e < n) × P e)
+  collect_end {w} {j} {n} z a = subst (λ (k : ℕ). Exactly w (λ e. (e < k) × P e)) z a
+
 -- the empty collection, one number more, and what the tests say of all
 pub collected_none : {post : ℕ → Bool → Type 0} → Collected post 0 0
 unfolding Empty

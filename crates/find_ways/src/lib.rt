@@ -10,7 +10,7 @@ ghost use Rattle.sets.specs.Set.{set_of, Exactly};
 ghost use Rattle.find_borders.specs.Borders.{ShortMark, SameAt, Sames, Border, Borders};
 ghost use Rattle.find_ways.specs.Ways.{FallAt, FallWords, GreatestBelow, Continued, ContinuedRows, Outside, Resets, Allowed, WaysOf};
 
-use find_borders::numbers;
+use find_borders::{add_if, numbers};
 use sets::Set;
 
 // A mark as it is sought: its characters, for each the states that it leads back, and for each state the characters
@@ -32,21 +32,26 @@ pub struct Ways {
     pub allowed: u64,
 }
 
-// Whether r is below q and the greatest number of w.
-fn tops(w: u64, r: usize, q: usize) -> bool
+// Whether r is the greatest number of w.
+fn tops(w: u64, r: usize) -> bool
     requires { r < 64 }
-    ensures { Tells result ((r < q) × Greatest w r) }
+    ensures { Tells result (Greatest w r) }
 {
-    r < q && w >> r == 1
+    w >> r == 1
 }
 
-// The states above r that character r of the mark leads back to state r + 1.
+// The states above r that character r of the mark leads back to state r + 1. Those up to r are not looked at, which is
+// half of a long mark's work, so that this is no `numbers`.
 fn falls_at(mark: &[u8], borders: &[u64; 64], same: u64, r: usize) -> u64
     requires short_mark { ShortMark mark.now × (r < length mark.now) }
     requires borders { Borders mark.now (length mark.now) borders.now × Exactly same (SameAt mark.now (get_or mark.now r 0)) }
     ensures { Exactly result (FallAt mark.now r) }
 {
-    numbers(mark.len(), |q| tops(borders[q] & same, r, q))
+    let mut w = 0;
+    for q in r + 1..mark.len() {
+        w = add_if(w, q, tops(borders[q] & same, r));
+    }
+    w
 }
 
 // For each character of the mark, the states that it leads back; in the words that tell where the mark has it.

@@ -53,10 +53,9 @@ pub fn apply_three(counts: &[u64], numbers: &mut [u64], rule: Rule) -> Applied
     if !narrow_three(counts, numbers, rule, &mut x, &mut y, &mut z) {
         return Applied::None;
     }
-    let same_a = book_steps::lay_text(counts, numbers, rule.a, &x);
-    let same_b = book_steps::lay_text(counts, numbers, rule.b, &y);
-    let same_c = book_steps::lay_text(counts, numbers, rule.c, &z);
-    if same_a && same_b && same_c {
+    let first = book_steps::lay_text(counts, numbers, rule.a, &x, true);
+    let second = book_steps::lay_text(counts, numbers, rule.b, &y, first);
+    if book_steps::lay_text(counts, numbers, rule.c, &z, second) {
         return Applied::Same;
     }
     Applied::Changed

@@ -11,8 +11,10 @@ pub fn lay(numbers: &mut [u64], at: usize, new: &[u64])
     requires { at + length new.now ≤ length numbers.old }
     ensures { numbers.new ≡ replaced at new.now numbers.old }
 {
-    let end = at + new.len();
-    numbers[at..end].copy_from_slice(new);
+    for i in 0..new.len() {
+        let place = at + i;
+        numbers[place] = new[i];
+    }
 }
 
 // Whether two runs of numbers, as long as each other, are the same.

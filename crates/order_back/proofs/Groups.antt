@@ -24,7 +24,7 @@ use Rattle.rows.specs.Steps.{Given}
 use Rattle.order_sides.specs.Guide.{Guide}
 use Rattle.order_guides.specs.Guide.{next_of, Steady}
 use Rattle.order_guides.proofs.Guide.{next_past}
-use Rattle.row_paths.specs.Laid.{Laid}
+use Rattle.row_paths.specs.Laid.{LaidOut}
 use Rattle.order_rows.specs.Rows.{MatchRows, Limit, Right}
 use Rattle.row_paths.proofs.Laid.{laid_zones, laid_meets}
 use Rattle.order_rows.proofs.Evens.{limit_end}
@@ -50,7 +50,7 @@ with_end s one u true x e f = exactly_as
     (either_exactly s one (e refl))
 with_end s one u false x e f = exactly_at (f refl) (record { so = λ i h. inr h; has = λ i h. ⊎_elim (λ a. true_false (sym a.1)) (λ a. a) h })
 
-module _ {x : List ℕ} {y : List LaidBlock} (l : Laid x y) {G : Guide} where
+module _ {x : List ℕ} {y : List LaidBlock} (l : LaidOut x y) {G : Guide} where
   -- how positions sort at one state
   sorted_at : {q u same apart : ℕ} {may : Bool} {r : Sorts} → same ≡ G.same q → apart ≡ G.apart q → Tells may (0 < G.ends q)
       → SortedBy x y u same apart may r → SortedAs (slot_at (shape_of x)) G u q r

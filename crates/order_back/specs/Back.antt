@@ -11,7 +11,7 @@ use Rattle.rows.specs.Steps.{MeetsOne, Given, Together}
 use Rattle.carries.specs.Climb.{Spans}
 use Rattle.row_steps.specs.declared.Runs.{Runs}
 use Rattle.order_sides.specs.Guide.{Guide}
-use Rattle.row_paths.specs.Laid.{Laid}
+use Rattle.row_paths.specs.Laid.{Laid, LaidOut}
 use Rattle.order_rows.specs.Rows.{Limit, Brought}
 use Rattle.order_states.specs.declared.Sorts.{Sorts}
 use Rattle.order_states.specs.declared.Gathered.{Gathered}
@@ -21,6 +21,16 @@ use Rattle.order_states.specs.States.{PassOf}
 -- block's characters.
 pub record Ready (x : List ℕ) (layout : List LaidBlock) (runs : Runs) (spans : List Set) (u : ℕ) (text : List ℕ) (rows chars : List Set) : Type 0 where
   pub laid : Laid x layout
+  pub all : Together (zone_in layout) (end_in layout) (block_count x) (set_of runs.free) (set_of runs.stops)
+  pub spanned : Spans (set_of runs.free) spans
+  pub size : u ≡ total (shape_of x)
+  pub short : length text ≤ 250
+  pub rows_long : length rows ≡ table_size
+  pub room : block_count x ≤ length chars
+
+-- The same where the layout has one struct for each block and no more.
+pub record ReadyOut (x : List ℕ) (layout : List LaidBlock) (runs : Runs) (spans : List Set) (u : ℕ) (text : List ℕ) (rows chars : List Set) : Type 0 where
+  pub laid : LaidOut x layout
   pub all : Together (zone_in layout) (end_in layout) (length layout) (set_of runs.free) (set_of runs.stops)
   pub spanned : Spans (set_of runs.free) spans
   pub size : u ≡ total (shape_of x)

@@ -3,7 +3,7 @@
 
 #![tactic(auto)]
 
-ghost use Rattle.std.specs.Prelude.{◌≡◌, ℕ, ◌+◌, ◌-◌, ◌≤◌, ◌<◌, length};
+ghost use Rattle.std.specs.Prelude.{◌≡◌, ℕ, ◌+◌, ◌-◌, ◌≤◌, ◌<◌, length, take};
 ghost use Rattle.sets.specs.Set.{set_of};
 ghost use Rattle.shapes.specs.Lent.{shape_of};
 ghost use Rattle.walks.specs.Walk.{slot_at};
@@ -12,7 +12,7 @@ ghost use Rattle.order_guides.specs.Guide.{next_of, guide_of, Steady};
 ghost use Rattle.order_rows.specs.Rows.{MatchRows, Right};
 ghost use Rattle.order_forth.specs.Forth.{Forth};
 ghost use Rattle.shapes.specs.Shape.{block_count};
-ghost use Rattle.order_back.specs.Back.{Ready, SortedBy, Handed, Group, Gathers};
+ghost use Rattle.order_back.specs.Back.{Ready, ReadyOut, SortedBy, Handed, Group, Gathers};
 
 use order_guides::Bound;
 use order_states::{Gathered, LaidShape, Sorts};
@@ -53,7 +53,7 @@ fn group(
     clear: Set,
     chars: &mut [Set],
 ) -> Gathered
-    requires ready { Ready shape.lent.now shape.layout.now shape.runs shape.spans.now shape.end bound.text.now rows.now chars.old }
+    requires ready { ReadyOut shape.lent.now shape.layout.now shape.runs shape.spans.now shape.end bound.text.now rows.now chars.old }
     requires lo_lt_hi { (lo < hi) × (hi ≤ 251) }
     requires cases { MatchRows (slot_at (shape_of shape.lent.now)) (next_of bound.text.now) rows.now (hi - 1) }
     requires steady { Steady (guide_of bound.direction bound.strict bound.text.now) lo hi }
@@ -80,8 +80,14 @@ fn top(m: usize, n: usize) -> usize
 }
 
 // All states, by groups at which the guide says the same; the characters of each block go to `chars`, which is blank.
-pub fn gather(bound: Bound, shape: LaidShape, rows: &[Set], n: usize, chars: &mut [Set]) -> Gathered
-    requires ready { Ready shape.lent.now shape.layout.now shape.runs shape.spans.now shape.end bound.text.now rows.now chars.old }
+fn gather_laid(
+    bound: Bound,
+    shape: LaidShape,
+    rows: &[Set],
+    n: usize,
+    chars: &mut [Set],
+) -> Gathered
+    requires ready { ReadyOut shape.lent.now shape.layout.now shape.runs shape.spans.now shape.end bound.text.now rows.now chars.old }
     requires forth { Forth shape.lent.now bound.text.now rows.now n }
     requires by_index { (j : ℕ) → j < length shape.layout.now → row_in chars.old j ≡ 0 }
     ensures gathers { Gathers (slot_at (shape_of shape.entry.lent.now)) (guide_of bound.entry.direction bound.entry.strict bound.entry.text.now) shape.entry.end shape.entry.layout.now chars.new result }
@@ -97,4 +103,16 @@ pub fn gather(bound: Bound, shape: LaidShape, rows: &[Set], n: usize, chars: &mu
         hi = lo;
     }
     g
+}
+
+// The same where the layout has room for more blocks.
+pub fn gather(bound: Bound, shape: LaidShape, rows: &[Set], n: usize, chars: &mut [Set]) -> Gathered
+    requires ready { Ready shape.lent.now shape.layout.now shape.runs shape.spans.now shape.end bound.text.now rows.now chars.old }
+    requires forth { Forth shape.lent.now bound.text.now rows.now n }
+    requires by_index { (j : ℕ) → j < block_count shape.lent.now → row_in chars.old j ≡ 0 }
+    ensures gathers { Gathers (slot_at (shape_of shape.entry.lent.now)) (guide_of bound.entry.direction bound.entry.strict bound.entry.text.now) shape.entry.end (take (block_count shape.entry.lent.now) shape.entry.layout.now) chars.new result }
+    ensures chars_len_unchanged { length chars.new ≡ length chars.old }
+{
+    let layout = &shape.layout[..shape.lent.len() / shapes::SIZE];
+    gather_laid(bound, LaidShape { layout, ..shape }, rows, n, chars)
 }

@@ -4,6 +4,7 @@ use mathlib.Core.List.{List}
 use Prim.Native.Nat.{ℕ, ◌^◌, ◌≤◌, ◌<◌}
 use native.Mathlib.Omega.{arith}
 use lib.ListN.{length, get_or, take}
+use lib.Seq.{take_all}
 use Rattle.bases.specs.Base.{Holds, codes}
 use Rattle.sets.specs.declared.Set.{Set}
 use Rattle.sets.specs.Set.{set_of, Exactly}
@@ -25,7 +26,7 @@ use Rattle.order_sides.specs.Guide.{Guide, KeptTo, Clear}
 use Rattle.order_sides.specs.Collect.{RunEndsAt, SideCollected}
 use Rattle.order_sides.proofs.Runs.{Spot}
 use Rattle.order_sides.proofs.Side.{spot, side_none, side_ends, side_hull}
-use Rattle.row_paths.specs.Laid.{Laid}
+use Rattle.row_paths.specs.Laid.{LaidOut}
 use Rattle.order_rows.specs.Rows.{Known}
 use Rattle.row_paths.proofs.Laid.{laid_zones}
 use Rattle.order_rows.proofs.Told.{ends_length, told_collected}
@@ -34,7 +35,12 @@ use Rattle.order_back.specs.Back.{Gathers}
 use Rattle.order_by_text.specs.Freed.{Freed}
 use Rattle.order_by_text.specs.Narrowed.{OneNarrowed}
 
-module _ {x : List ℕ} {y : List LaidBlock} (l : Laid x y) {u : ℕ} (size : u ≡ total (shape_of x)) (G : Guide) {chars : List Set} {g : Gathered}
+-- what is gathered by the part of a layout that is all of it
+pub gathered : {x : List ℕ} {y : List LaidBlock} → LaidOut x y → {G : Guide} {u : ℕ} {chars : List Set} {g : Gathered} → Gathers (slot_at (shape_of x)) G u (take (block_count x) y) chars g
+    → Gathers (slot_at (shape_of x)) G u y chars g
+gathered {x} {y} l {G} {u} {chars} {g} t = subst (λ (w : List LaidBlock). Gathers (slot_at (shape_of x)) G u w chars g) (take_all (block_count x) y (let e = l.long in omega arith)) t
+
+module _ {x : List ℕ} {y : List LaidBlock} (l : LaidOut x y) {u : ℕ} (size : u ≡ total (shape_of x)) (G : Guide) {chars : List Set} {g : Gathered}
     (t : Gathers (slot_at (shape_of x)) G u y chars g) where
   -- the first row tells whether some text is on the right side
   pub none_right : (Holds (set_of g.clear) 0 → ⊥) → None (KeptTo G) (shape_of x)

@@ -9,7 +9,7 @@ ghost use Rattle.shapes.specs.Lent.{Whole, shape_of};
 ghost use Rattle.order_sides.specs.Guide.{KeptTo};
 ghost use Rattle.order_guides.specs.Sides.{Side};
 ghost use Rattle.order_guides.specs.Guide.{guide_of};
-ghost use Rattle.row_paths.specs.Laid.{Laid};
+ghost use Rattle.row_paths.specs.Laid.{LaidOut};
 ghost use Rattle.order_by_text.specs.Narrowed.{One};
 ghost use Rattle.order_by_text.specs.Freed.{Freed};
 
@@ -48,12 +48,12 @@ fn freed(shape: LaidShape, g: Gathered, chars: &mut [Set]) -> Places
 
 // Narrows a shape that is laid out, u past all its blocks.
 fn narrow_laid(bound: Bound, x: &[u64], layout: &[LaidBlock], u: usize, out: &mut [u64]) -> bool
-    requires laid { Laid x.now layout.now × (u ≡ total (shape_of x.now)) }
+    requires laid { LaidOut x.now layout.now × (u ≡ total (shape_of x.now)) }
     requires short { length bound.text.now ≤ 250 }
     requires x_bound { (block_count x.now ≤ most_blocks) × (length x.now ≤ length out.old) }
     ensures { One (KeptTo (guide_of bound.entry.direction bound.entry.strict bound.entry.text.now)) x.now out.old out.new result }
 {
-    let mut rows: [Set; 251] = rows::blank();
+    let mut rows: [Set; rows::TABLE] = rows::blank();
     let n = order_forth::forth(x, layout, bound.text, &mut rows);
     let runs = row_steps::all_runs(layout);
     let mut spans: [Set; 8] = rows::blank();
@@ -65,7 +65,7 @@ fn narrow_laid(bound: Bound, x: &[u64], layout: &[LaidBlock], u: usize, out: &mu
         spans: &spans[..count],
         end: u,
     };
-    let mut chars: [Set; 32] = rows::blank();
+    let mut chars: [Set; rows::LAYOUT] = rows::blank();
     let g = order_back::gather(bound, shape, &rows, n, &mut chars);
     if !sets::has(g.clear, 0) {
         return false;
@@ -82,7 +82,7 @@ pub fn narrow_side(bound: Bound, x: &[u64], out: &mut [u64]) -> bool
     requires x_bound { (block_count x.now ≤ most_blocks) × (length x.now ≤ length out.old) }
     ensures { One (λ f. Side bound.entry.direction bound.entry.strict (text_of f) bound.entry.text.now) x.now out.old out.new result }
 {
-    let mut room: [LaidBlock; 32] = rows::blank_layout();
+    let mut room: [LaidBlock; rows::LAYOUT] = rows::blank_layout();
     let u = row_lay::lay(x, &mut room);
     narrow_laid(bound, x, &room[..x.len() / shapes::SIZE], u, out)
 }

@@ -15,7 +15,7 @@ use Rattle.rows.specs.Row.{zone_in, end_in, slot_in, PutRow, table_size}
 use Rattle.rows.specs.Steps.{Leads, MeetsOne}
 use Rattle.rows.proofs.Rows.{rows_more}
 use Rattle.order_guides.specs.Guide.{next_of}
-use Rattle.row_paths.specs.Laid.{Laid}
+use Rattle.row_paths.specs.Laid.{LaidOut}
 use Rattle.order_rows.specs.Rows.{Matches}
 use Rattle.row_paths.proofs.Laid.{laid_zones, laid_meets}
 use Rattle.order_rows.proofs.Evens.{row_first, row_next, limit_empty}
@@ -24,7 +24,7 @@ use Rattle.order_forth.specs.Forth.{Forth, ForthTo}
 pub same_mask : {A B : ℕ → ℕ} {n k s t : ℕ} → s ≡ t → Exactly n (MeetsOne A B k s) → Exactly n (MeetsOne A B k t)
 same_mask {A} {B} {n} {k} e x = subst (λ (v : ℕ). Exactly n (MeetsOne A B k v)) e x
 
-module _ {x : List ℕ} {y : List LaidBlock} (l : Laid x y) (text : List ℕ) where
+module _ {x : List ℕ} {y : List LaidBlock} (l : LaidOut x y) (text : List ℕ) where
   -- the row of the starts
   pub forth_first : {t r mask : ℕ} {w w' : List Set} → length w ≡ table_size → Exactly t (λ i. i ≡ 0) → Exactly r (Leads (end_in y) (zone_in y) (length y) t) → PutRow w 0 r w'
       → ForthTo x y text w' r mask 0

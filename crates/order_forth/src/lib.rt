@@ -9,7 +9,7 @@ ghost use Rattle.shapes.specs.Lent.{block_at};
 ghost use Rattle.rows.specs.Row.{slot_in, table_size};
 ghost use Rattle.rows.specs.Steps.{MeetsOne};
 ghost use Rattle.order_guides.specs.Guide.{next_of};
-ghost use Rattle.row_paths.specs.Laid.{Laid};
+ghost use Rattle.row_paths.specs.Laid.{Laid, LaidOut};
 ghost use Rattle.shapes.specs.Shape.{block_count};
 ghost use Rattle.order_forth.specs.Forth.{Forth};
 
@@ -30,8 +30,8 @@ fn next_mask(x: &[u64], layout: &[LaidBlock], text: &[u8], q: usize, mask: Set) 
 }
 
 // The rows of a shape that is laid out, up to one that is empty or of the whole text; gives the number of the last.
-pub fn forth(x: &[u64], layout: &[LaidBlock], text: &[u8], rows: &mut [Set]) -> usize
-    requires laid { Laid x.now layout.now }
+fn forth_laid(x: &[u64], layout: &[LaidBlock], text: &[u8], rows: &mut [Set]) -> usize
+    requires laid { LaidOut x.now layout.now }
     requires short { length text.now ≤ 250 }
     requires rows_len { length rows.old ≡ table_size }
     ensures forth { Forth x.now text.now rows.new result }
@@ -50,4 +50,15 @@ pub fn forth(x: &[u64], layout: &[LaidBlock], text: &[u8], rows: &mut [Set]) -> 
         rows[q + 1] = row;
     }
     text.len()
+}
+
+// The same where the layout has room for more blocks.
+pub fn forth(x: &[u64], layout: &[LaidBlock], text: &[u8], rows: &mut [Set]) -> usize
+    requires laid { Laid x.now layout.now }
+    requires short { length text.now ≤ 250 }
+    requires rows_len { length rows.old ≡ table_size }
+    ensures forth { Forth x.now text.now rows.new result }
+    ensures rows_len_unchanged { length rows.new ≡ length rows.old }
+{
+    forth_laid(x, &layout[..x.len() / shapes::SIZE], text, rows)
 }

@@ -7,7 +7,7 @@ ghost use Rattle.std.specs.Prelude.{◌≡◌, ◌≤◌};
 ghost use Rattle.sets.specs.Set.{set_of, Exactly};
 ghost use Rattle.shapes.specs.Lent.{shape_of};
 ghost use Rattle.shapes.specs.Shape.{total};
-ghost use Rattle.row_paths.specs.Laid.{Laid};
+ghost use Rattle.row_paths.specs.Laid.{LaidOut};
 ghost use Rattle.pads.specs.Pad.{padded_at};
 ghost use Rattle.pad_rows.specs.Alone.{Trails, Tails};
 ghost use Rattle.pad_rows.specs.Code.{Over, WithBlock};
@@ -36,7 +36,7 @@ fn trail_block(laid: LaidBlock, padded: bool, r: Set) -> Set
 
 // All positions of y to which padding leads from those of s.
 pub fn trail(y: &[u64], layout: &[LaidBlock], pad: Set, s: Set) -> Set
-    requires laid { Laid y.now layout.now }
+    requires laid { LaidOut y.now layout.now }
     ensures { Exactly (set_of result) (Trails (padded_at (set_of pad) (shape_of y.now)) (set_of pad) (set_of s)) }
 {
     let mut r = s;
@@ -79,7 +79,7 @@ fn tail_block(laid: LaidBlock, padded: bool, t: Tail) -> Tail
 
 // All positions of y from which padding leads to its end m.
 pub fn tail_of(y: &[u64], layout: &[LaidBlock], m: usize, pad: Set) -> Tail
-    requires laid { Laid y.now layout.now }
+    requires laid { LaidOut y.now layout.now }
     requires end { m ≡ total (shape_of y.now) }
     ensures { Tails (padded_at (set_of pad) (shape_of y.now)) (set_of pad) (total (shape_of y.now)) result }
 {

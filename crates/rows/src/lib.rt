@@ -15,6 +15,11 @@ pub struct LaidBlock {
     pub slot: Set,
 }
 
+// A layout has a place for each of 32 blocks, a table a row for each position from 0 to 250.
+pub const LAYOUT: usize = 32;
+
+pub const TABLE: usize = 251;
+
 const NO_SET: Set = Set {
     a: 0,
     b: 0,

@@ -53,9 +53,8 @@ pub fn apply_two(counts: &[u64], numbers: &mut [u64], rule: Rule, relation: Rela
     if !narrow_two(counts, numbers, rule, relation, &mut x, &mut y) {
         return Applied::None;
     }
-    let same_a = book_steps::lay_text(counts, numbers, rule.a, &x);
-    let same_b = book_steps::lay_text(counts, numbers, rule.b, &y);
-    if same_a && same_b {
+    let first = book_steps::lay_text(counts, numbers, rule.a, &x, true);
+    if book_steps::lay_text(counts, numbers, rule.b, &y, first) {
         return Applied::Same;
     }
     Applied::Changed

@@ -8,11 +8,11 @@ use Rattle.books.proofs.text.Goals as goal
 pub returns : goal.returns
 returns c =
     let xs = c.args.numbers.now in
-    let r = c.range_of.result in
-    let e = c.range_of.ensures in
+    let r = c.range_of-range.result in
+    let e = c.range_of-range.ensures in
     let few = e.few in
     let to = e.to in
-    let size = length-take (r.end - r.start) (drop r.start xs) in
+    let size = length-take (r.to - r.from) (drop r.from xs) in
     record {
       numbers = range_part _ xs _ r e;
       shape = range_shape _ xs _ r e;

@@ -18,8 +18,7 @@ loop-a-preserved c =
     let l = c.loop-a in
     let x = c.args.both.now.x.now in
     let y = c.args.both.now.y.now in
-    let lay = c.requires.laid.0 in
-    let long = lay.long in
+    let lay = c.requires.slotted.0 in
     let t = c.loop-a-test.true in
     elim c.if-meets.branch [
       | then-meets w ↦ subst (λ (g : Chosen). ChosenTo x y (l.a + 1) (set_of c.args.own) (set_of c.args.other) g) (sym w.g-is) w.weigh_block-g.ensures
@@ -30,6 +29,5 @@ loop-a-preserved c =
 pub returns : goal.returns
 returns c =
     let l = c.loop-a in
-    let long = c.requires.laid.0.long in
     let t = c.loop-a-test.false in
     all_found c.args.both.now.x.now c.args.both.now.y.now (set_of c.args.own) (set_of c.args.other) (let le : block_count c.args.both.now.x.now ≤ l.a = omega arith in le) l.invariant

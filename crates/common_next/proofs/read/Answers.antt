@@ -6,4 +6,4 @@ use Rattle.common_next.proofs.read.Goals as goal
 pub returns-clause-exactly_3 : goal.returns-clause-exactly_3
 returns-clause-exactly_3 c =
     let x = c.args.shape.now in
-    row_after_lem x (set_of _) (set_of _) _ c.requires.laid.whole.short c.taking-takes.ensures c.both.ensures c.up-taken.ensures (c.onward.ensures x c.requires.code_bound.1)
+    row_after_lem x (set_of _) (set_of _) _ c.requires.slotted.laid.whole.short c.taking-takes.ensures c.both.ensures c.up-taken.ensures (c.onward.ensures x c.requires.code_bound.1)

@@ -3,13 +3,14 @@ use Rattle.sets.specs.Set.{set_of, Exactly}
 use Rattle.shapes.specs.Lent.{shape_of}
 use Rattle.walks.specs.Walk.{slot_at}
 use Rattle.common_weighs.specs.Code.{SharedAt}
-use Rattle.common_weighs.proofs.Ends.{shared_row, sooner_no_row, sooner_none, sooner_least}
+use lib.Seq.{length-take-le}
+use Rattle.common_weighs.proofs.Ends.{slotted_part, shared_row, sooner_no_row, sooner_none, sooner_least}
 use Rattle.common_weighs.proofs.sooner.Goals as goal
 use Rattle.common_weighs.proofs.sooner.Goals.{After-both-shared}
 
 -- what is shared
 shares : (c : After-both-shared) → let a = c.args in Exactly (set_of c.both-shared.result) (SharedAt (slot_at (shape_of a.y.now)) (set_of a.base) (set_of a.row))
-shares c = shared_row c.requires c.requires.long (set_of _) (set_of _) c.joined.ensures c.both-shared.ensures
+shares c = let l = c.requires in shared_row (slotted_part l) (length-take-le _ _ l.long) (set_of _) (set_of _) c.joined.ensures c.both-shared.ensures
 
 pub returns-then-is_empty : goal.returns-then-is_empty
 returns-then-is_empty c = sooner_no_row (c.is_empty.ensures.so c.if-is_empty.true)

@@ -47,7 +47,7 @@ pub read-first-requires : goal.read-first-requires
 read-first-requires t c =
     let r = c.requires in
     record {
-      laid = r.both_laid.own;
+      slotted = r.both_laid.own;
       code_bound = ((chosen t (goal.at.read-first-requires t c).After-next-found).0, r.stands.0.runs);
       exactly = again c.args.both.now.x.now _ _ r.stands.0.takes;
     }
@@ -56,7 +56,7 @@ pub read-second-requires : goal.read-second-requires
 read-second-requires t c =
     let r = c.requires in
     record {
-      laid = r.both_laid.other;
+      slotted = r.both_laid.other;
       code_bound = ((chosen t (goal.at.read-second-requires t c).After-next-found).0, r.stands.1.runs);
       exactly = again c.args.both.now.y.now _ _ r.stands.1.takes;
     }

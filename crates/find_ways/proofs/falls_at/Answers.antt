@@ -1,26 +1,33 @@
--- `find_ways::falls_at`: a test of each state. Assumes nothing.
+-- `find_ways::falls_at`: one state more each turn. Assumes nothing.
 use mathlib.Core.List.{[], ◌∷◌, ◌++◌}
 use Prim.Native.Nat.{◌+◌, ◌<◌}
 use native.Mathlib.Omega.{arith}
-use borrow.Author.Rules.{rules}
-use lib.Bits.{bit_and}
-use Rattle.bases.specs.Base.{Greatest}
-use lib.ListN.{get_or, take}
+use lib.ListN.{length, get_or, take}
 use Rattle.sets.proofs.Exact.{exactly_as}
 use Rattle.find_texts.specs.Match.{Matched}
-use Rattle.find_borders.proofs.Collect.{collected, tells_as}
+use Rattle.find_borders.proofs.Collect.{collect_none, collect_more, collect_end, tells_as}
 use Rattle.find_ways.proofs.Leads.{tops_matched, matched_tops}
 use Rattle.find_ways.proofs.falls_at.Goals as goal
 
-pub returns : goal.returns
-returns c = exactly_as (λ e h. (h.1.0, (h.0, h.1.1))) (λ e h. (h.1.0, (h.0, h.1.1))) (collected c.numbers.ensures (λ q b l p.
+pub loop-q-init : goal.loop-q-init
+loop-q-init c = (omega arith, collect_none _ (λ e g h. let k = h.0 in omega arith))
+
+pub loop-q-preserved : goal.loop-q-preserved
+loop-q-preserved c =
+    let l = c.loop-q in
     let a = c.args in
     let mark = a.mark.now in
-    let small = c.requires.short_mark.1 in
-    let word = c.requires.borders.0 q l in
+    let q = l.q in
+    let small : q < length mark = omega arith in
+    let above = l.invariant.0 in
+    let word = c.requires.borders.0 q small in
     let same = c.requires.borders.1 in
     let next = get_or mark a.r 0 in
-    tells_as {P = (a.r < q) × Greatest (bit_and (get_or a.borders.now q 0) a.same) a.r} {Q = (a.r < q) × Matched mark (take q mark ++ (next ∷ [])) (a.r + 1)}
-    (λ g. (g.0, tops_matched mark q l next word same g.1))
-    (λ m. (m.0, matched_tops mark q l next (let k = m.0 in omega arith) word same m.1))
-    (search rules)))
+    let t = tells_as {Q = (a.r < q) × Matched mark (take q mark ++ (next ∷ [])) (a.r + 1)}
+    (λ g. (above, tops_matched mark q small next word same g))
+    (λ m. matched_tops mark q small next (omega arith) word same m.1)
+    c.tops.ensures in
+    (omega arith, collect_more _ l.invariant.1 t c.add_if-w.ensures)
+
+pub returns : goal.returns
+returns c = exactly_as (λ e h. (h.1.0, (h.0, h.1.1))) (λ e h. (h.1.0, (h.0, h.1.1))) (collect_end _ (omega arith) c.loop-q.invariant.1)

@@ -1,7 +1,7 @@
 -- `find_ways::lay_falls`: one word more each turn; those behind it still tell where the mark has its character. Assumes
 -- nothing.
 use mathlib.Core.Path.{◌≡◌, ◌∙◌, subst}
-use Prim.Native.Nat.{ℕ, ◌-◌, ◌<◌}
+use Prim.Native.Nat.{ℕ, ◌<◌}
 use native.Mathlib.Omega.{arith}
 use lib.ListN.{length, length-set}
 use lib.Seq.{get_or-set_other}

@@ -1,7 +1,7 @@
 -- `find_ways::lay_falls`: one word more each turn; those behind it still tell where the mark has its character. Assumes
 -- nothing.
 use mathlib.Core.Path.{◌≡◌}
-use Prim.Native.Nat.{ℕ, ◌-◌, ◌≤◌, ◌<◌}
+use Prim.Native.Nat.{ℕ, ◌≤◌, ◌<◌}
 use lib.ListN.{length, get_or}
 use Rattle.sets.specs.Set.{Exactly}
 use Rattle.find_borders.specs.Borders.{SameAt}

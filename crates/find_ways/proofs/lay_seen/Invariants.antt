@@ -1,5 +1,4 @@
 -- `find_ways::lay_seen`: one row more each turn. Assumes nothing.
-use Prim.Native.Nat.{◌-◌}
 use lib.ListN.{length}
 use mathlib.Core.Path.{◌≡◌}
 use Rattle.find_ways.specs.Ways.{ContinuedRows}

@@ -1,6 +1,5 @@
 -- `join_rules::apply_three`: the three texts of the join are narrowed, and what comes of them is laid over their
 -- places. Assumes nothing.
-use mathlib.Core.Logic.{⊎_elim}
 use borrow.Author.Rules.{rules}
 use Rattle.plain.proofs.All.{all_of}
 use Rattle.book_steps.proofs.Narrowed.{three_none, three_same, three_changed}
@@ -11,22 +10,20 @@ returns-then-not-narrow_three c =
     let none = c.narrow_three.ensures.none c.if-not-narrow_three.true in
     three_none c.requires.texts.standing c.args.rule c.requires.sound_rule.right c.requires.kind_value none.none
 
-pub returns-then-same_c : goal.returns-then-same_c
-returns-then-same_c c =
-    let first = c.lay_text-same_a.ensures in
-    let second = c.lay_text-same_b.ensures in
-    let third = c.lay_text-same_c.ensures in
+pub returns-then-lay_text : goal.returns-then-lay_text
+returns-then-lay_text c =
+    let first = c.lay_text-first.ensures in
+    let second = c.lay_text-second.ensures in
+    let third = c.lay_text.ensures in
     three_same c.requires.texts.standing c.args.rule c.requires.sound_rule.right c.requires.kind_value
     (c.narrow_three.ensures.all c.if-not-narrow_three.false) (all_of c.args.numbers.now 0 (λ i h. search rules))
-    first.numbers_after first.tells second.numbers_after second.tells third.numbers_after third.tells
-    (rw (c.if-same_a.true, c.if-same_b.true, c.if-same_c.true))
+    first.numbers_after first.tells second.numbers_after second.tells third.numbers_after third.tells c.if-lay_text.true
 
 pub returns : goal.returns
 returns c =
-    let first = c.lay_text-same_a.ensures in
-    let second = c.lay_text-same_b.ensures in
-    let third = c.lay_text-same_c.ensures in
+    let first = c.lay_text-first.ensures in
+    let second = c.lay_text-second.ensures in
+    let third = c.lay_text.ensures in
     three_changed c.requires.texts.standing c.args.rule c.requires.sound_rule.right c.requires.kind_value
     (c.narrow_three.ensures.all c.if-not-narrow_three.false) (all_of c.args.numbers.now 0 (λ i h. search rules))
-    first.numbers_after first.tells second.numbers_after second.tells third.numbers_after third.tells
-    (⊎_elim (λ w. rw (w.0, w.1, w.2)) (⊎_elim (λ w. rw (w.0, w.1)) (λ w. rw w)) c.else-same_a.either)
+    first.numbers_after first.tells second.numbers_after second.tells third.numbers_after third.tells c.if-lay_text.false

@@ -1,7 +1,6 @@
 -- `two_rules::apply_two`: the two texts of the rule are narrowed, and what comes of them is laid over their places.
 -- Assumes nothing.
 use mathlib.Core.Path.{◌≡◌, ◌∙◌}
-use mathlib.Core.Logic.{⊎_elim}
 use native.Mathlib.Omega.{arith}
 use borrow.Author.Rules.{rules}
 use Rattle.texts.specs.Kind.{join_kind}
@@ -25,18 +24,18 @@ returns-then-not-narrow_two c =
     let none = c.narrow_two.ensures.neither c.if-not-narrow_two.true in
     two_none c.requires.texts.standing c.args.rule c.requires.right_rule (λ e. no_join c.args.relation (c.requires.kind ∙ e)) none.none
 
-pub returns-then-same_b : goal.returns-then-same_b
-returns-then-same_b c =
-    let a = c.lay_text-same_a.ensures in
-    let b = c.lay_text-same_b.ensures in
+pub returns-then-lay_text : goal.returns-then-lay_text
+returns-then-lay_text c =
+    let a = c.lay_text-first.ensures in
+    let b = c.lay_text.ensures in
     two_same c.requires.texts.standing c.args.rule c.requires.right_rule (λ e. no_join c.args.relation (c.requires.kind ∙ e))
     (c.narrow_two.ensures.both c.if-not-narrow_two.false) (all_of c.args.numbers.now 0 (λ i h. search rules))
-    a.numbers_after a.tells b.numbers_after b.tells (rw (c.if-same_a.true, c.if-same_b.true))
+    a.numbers_after a.tells b.numbers_after b.tells c.if-lay_text.true
 
 pub returns : goal.returns
 returns c =
-    let a = c.lay_text-same_a.ensures in
-    let b = c.lay_text-same_b.ensures in
+    let a = c.lay_text-first.ensures in
+    let b = c.lay_text.ensures in
     two_changed c.requires.texts.standing c.args.rule c.requires.right_rule (λ e. no_join c.args.relation (c.requires.kind ∙ e))
     (c.narrow_two.ensures.both c.if-not-narrow_two.false) (all_of c.args.numbers.now 0 (λ i h. search rules))
-    a.numbers_after a.tells b.numbers_after b.tells (⊎_elim (λ w. rw (w.0, w.1)) (λ w. rw w) c.else-same_a.either)
+    a.numbers_after a.tells b.numbers_after b.tells c.if-lay_text.false

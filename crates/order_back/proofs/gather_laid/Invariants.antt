@@ -1,4 +1,4 @@
--- `order_back::gather`: group before group, from past all states that are reached to the first. Assumes nothing.
+-- `order_back::gather_laid`: group before group, from past all states that are reached to the first. Assumes nothing.
 use mathlib.Core.Path.{◌≡◌}
 use Prim.Native.Nat.{◌+◌, ◌≤◌}
 use lib.ListN.{length}
@@ -6,7 +6,7 @@ use Rattle.shapes.specs.Lent.{shape_of}
 use Rattle.walks.specs.Walk.{slot_at}
 use Rattle.order_guides.specs.Guide.{guide_of}
 use Rattle.order_back.specs.Back.{GathersFrom}
-use Rattle.order_back.proofs.gather.Given as goal
+use Rattle.order_back.proofs.gather_laid.Given as goal
 
 abbrev pub invariant-loop-hi : goal.invariant-loop-hi
 invariant-loop-hi l = record {

@@ -1,4 +1,4 @@
--- `common_back::back`: the last row first, then block by block from the last, each from the row at its end. Assumes
+-- `common_back::back_laid`: the last row first, then block by block from the last, each from the row at its end. Assumes
 -- nothing.
 use mathlib.Core.Path.{◌≡◌}
 use Prim.Native.Nat.{◌≤◌}
@@ -7,7 +7,7 @@ use Rattle.sets.specs.Set.{set_of}
 use Rattle.shapes.specs.Shape.{block_count}
 use Rattle.rows.specs.Row.{table_size}
 use Rattle.common_back.proofs.Pass.{PassFrom}
-use Rattle.common_back.proofs.back.Given as goal
+use Rattle.common_back.proofs.back_laid.Given as goal
 
 abbrev pub invariant-loop-i : goal.invariant-loop-i
 invariant-loop-i l =
