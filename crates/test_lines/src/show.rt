@@ -78,11 +78,14 @@ pub fn rest(bytes: &[u8], filler: u8) {
     io::print_decimal(1, untouched(bytes, filler) as u64);
 }
 
+// The library's `position` takes more than twice as long here, which is most of what a case costs.
 fn zeros(bytes: &[u8]) -> usize {
-    bytes
-        .iter()
-        .position(|byte| *byte != 0)
-        .unwrap_or(bytes.len())
+    for i in 0..bytes.len() {
+        if bytes[i] != 0 {
+            return i;
+        }
+    }
+    bytes.len()
 }
 
 fn untouched(bytes: &[u8], filler: u8) -> usize {
